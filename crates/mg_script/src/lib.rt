@@ -1,0 +1,9 @@
+//! Scripts and transcripts: what a client's calls look like as text, and the answers to them.
+#![tactic(auto)]
+
+mod fields;
+mod pieces;
+mod script;
+mod tokens;
+
+pub use script::Line;
