@@ -1,3 +1,4 @@
-pub mod Numbers
 pub mod Cuts
+pub mod Numbers
+pub mod ScriptLemmas
 pub mod Spellings

@@ -130,3 +130,8 @@ abbrev pub Refuses : Fault → Result (List Line) (ℕ × Why) → Type 0
 Refuses NoMemory script = Unit {0}
 Refuses (BadLine line why) script = script ≡ Err (line, why)
 Refuses fault script = ⊥
+
+-- what is wrong with a line, as a fault that has its number
+abbrev pub located : ℕ → LineError → Fault
+located n errors.NoMemory = NoMemory
+located n (errors.Wrong why) = BadLine n why

@@ -6,4 +6,4 @@ mod pieces;
 mod script;
 mod tokens;
 
-pub use script::Line;
+pub use script::{Line, read_script};
