@@ -25,8 +25,7 @@ byte_text b = if is_plain b then b ∷ [] else 37 ∷ hex_digit (b / 16) ∷ hex
 
 -- the token of a list of bytes: its bytes, or a lone % where there are none
 unfoldable pub token_of : List ℕ → List ℕ
-token_of [] = 37 ∷ []
-token_of (b ∷ bytes) = flat_map byte_text (b ∷ bytes)
+token_of bytes = if length bytes == 0 then 37 ∷ [] else flat_map byte_text bytes
 
 -- what an upper-case hexadecimal digit stands for
 abbrev pub hex_value : ℕ → Option ℕ

@@ -5,5 +5,6 @@ mod fields;
 mod pieces;
 mod script;
 mod tokens;
+mod transcript;
 
 pub use script::{Line, read_script};
