@@ -92,3 +92,34 @@ answer_line client n part answer = decimal client ++ field (codes " ") n ++ fiel
 -- the end line of a partition: its calls, its length and its epoch
 unfoldable pub end_line : ℕ → ℕ → ℕ → ℕ → List ℕ
 end_line part calls length epoch = field (codes "end ") part ++ field (codes " ") calls ++ field (codes " ") length ++ field (codes " ") epoch ++ codes "\n"
+
+-- a file's partition, kind and number, behind a word
+abbrev pub file_text : List ℕ → FileId → List ℕ
+file_text word file = field word file.part ++ field (codes " ") file.kind ++ field (codes " ") file.number
+
+-- the word for what is wrong with a line
+abbrev pub why_word : Why → List ℕ
+why_word why.Ending = codes "ending"
+why_word why.Client = codes "client"
+why_word why.Verb = codes "verb"
+why_word why.Part = codes "partition"
+why_word why.Key = codes "key"
+why_word why.Doc = codes "document"
+why_word why.Number = codes "number"
+why_word why.Extra = codes "extra"
+
+-- a fault, as the program says it on standard error
+unfoldable pub fault_message : Fault → List ℕ
+fault_message fault.NoMemory = codes "no memory"
+fault_message fault.ReadFault = codes "read fault"
+fault_message fault.WriteFault = codes "write fault"
+fault_message (fault.Damaged file at kept found) = file_text (codes "damaged ") file ++ field (codes " at ") at ++ field (codes " kept ") kept ++ field (codes " found ") found
+fault_message (fault.Missing file) = file_text (codes "missing ") file
+fault_message (fault.Gap part applied low high) = field (codes "gap ") part ++ field (codes " applied ") applied ++ field (codes " low ") low ++ field (codes " high ") high
+fault_message (fault.BadLine line why) = field (codes "line ") line ++ codes ": " ++ why_word why
+fault_message (fault.TooLong limit) = field (codes "input over ") limit ++ codes " bytes"
+fault_message fault.BadWords = codes "bad words"
+fault_message (fault.BadSettings at) = field (codes "settings ") at
+fault_message (fault.FewerParts asked kept) = field (codes "partitions asked ") asked ++ field (codes " kept ") kept
+fault_message (fault.Malformed file at) = file_text (codes "malformed ") file ++ field (codes " at ") at
+fault_message (fault.Worn kept) = field (codes "worn ") kept

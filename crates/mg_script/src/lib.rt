@@ -2,9 +2,12 @@
 #![tactic(auto)]
 
 mod fields;
+mod messages;
 mod pieces;
 mod script;
 mod tokens;
 mod transcript;
 
+pub use messages::fault_text;
 pub use script::{Line, read_script};
+pub use transcript::{put_answer, put_end};

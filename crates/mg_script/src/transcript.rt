@@ -10,20 +10,20 @@ use itoa::Buffer;
 use mg_model::{Answer, Doc, Fault, Item, Key, Reply};
 use std::alloc::AllocError;
 
-fn put(out: &mut Vec<u8>, bytes: &[u8]) -> Result<(), AllocError>
+pub fn put(out: &mut Vec<u8>, bytes: &[u8]) -> Result<(), AllocError>
     ensures { OnOk result (out.new.items ≡ out.old.items ++ bytes.now) }
 {
     out.extend_from_slice(bytes)
 }
 
-fn put_number(out: &mut Vec<u8>, number: u64) -> Result<(), AllocError>
+pub fn put_number(out: &mut Vec<u8>, number: u64) -> Result<(), AllocError>
     ensures { OnOk result (out.new.items ≡ out.old.items ++ decimal number) }
 {
     let mut buffer = Buffer::new();
     put(out, buffer.format(number).as_bytes())
 }
 
-fn put_field(out: &mut Vec<u8>, word: &[u8], number: u64) -> Result<(), AllocError>
+pub fn put_field(out: &mut Vec<u8>, word: &[u8], number: u64) -> Result<(), AllocError>
     ensures { OnOk result (out.new.items ≡ out.old.items ++ field word.now number) }
 {
     put(out, word)?;
@@ -56,7 +56,7 @@ fn put_byte(out: &mut Vec<u8>, byte: u8) -> Result<(), AllocError>
 }
 
 #[tactic(auto, unfolding(crate::specs::Tokens::token_of))]
-fn put_token(out: &mut Vec<u8>, bytes: &[u8]) -> Result<(), AllocError>
+pub fn put_token(out: &mut Vec<u8>, bytes: &[u8]) -> Result<(), AllocError>
     ensures { OnOk result (out.new.items ≡ out.old.items ++ token_of bytes.now) }
 {
     if bytes.is_empty() {
