@@ -1,5 +1,5 @@
 -- A script, read from left to right, with the first line that is no call and what is wrong with it.
-use Rattle.std.specs.Prelude.{◌≡◌, ℕ, ◌+◌, List, [], ◌∷◌, ◌++◌, length, Bool, ◌&&◌, ◌==◌, nat_lt, nat_le, codes, Option, None, Some, Result, Ok, Err, if◌then◌else◌}
+use Rattle.std.specs.Prelude.{◌≡◌, ◌<◌, ◌≤◌, ℕ, ◌+◌, List, [], ◌∷◌, ◌++◌, length, Bool, ◌&&◌, ◌==◌, nat_lt, nat_le, codes, Option, None, Some, Result, Ok, Err, if◌then◌else◌}
 use Rattle.std.specs.Option.{option_map, option_map_or, option_and_then}
 use Rattle.std.specs.List.{slice_split}
 use Rattle.std.specs.Str.{bytes_eq}
@@ -135,3 +135,18 @@ Refuses fault script = ⊥
 abbrev pub located : ℕ → LineError → Fault
 located n errors.NoMemory = NoMemory
 located n (errors.Wrong why) = BadLine n why
+
+-- a call that a script can ask for
+abbrev pub IsSpoken : Call → Type 0
+IsSpoken (call.Set key doc) = Unit {0}
+IsSpoken (call.Del key) = Unit {0}
+IsSpoken (call.Get key) = Unit {0}
+IsSpoken (call.Feed epoch after limit) = (1 ≤ limit) × (limit ≤ 1000)
+IsSpoken call.Stats = Unit {0}
+IsSpoken other = ⊥
+
+-- a line of a script over so many partitions
+pub record IsLine (parts : ℕ) (line : Line) : Type 0 where
+  pub client : line.client < 16
+  pub part : line.part < parts
+  pub call : IsSpoken line.call

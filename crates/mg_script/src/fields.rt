@@ -1,11 +1,11 @@
 //! The fields of a line, read from left to right.
 
-ghost use Rattle.std.specs.Prelude.{◌≡◌, ◌==◌, [], ◌∷◌, MatchOption};
+ghost use Rattle.std.specs.Prelude.{◌≡◌, ◌==◌, [], ◌∷◌, MatchOption, ◌<◌, ◌≤◌, IfOk};
 ghost use Rattle.mg_script.specs.declared.fields.LineError.TheVariants.{NoMemory};
 ghost use Rattle.std.specs.List.{slice_split};
 ghost use Rattle.mg_model.specs.declared.faults.Why.TheVariants as why;
 ghost use Rattle.mg_script.specs.Tokens.{number_of};
-ghost use Rattle.mg_script.specs.Script.{call_of, client_of, doc_of, Gives, key_of, limit_of, no_more, part_of, take_field, verb_of};
+ghost use Rattle.mg_script.specs.Script.{call_of, client_of, doc_of, Gives, IsSpoken, key_of, limit_of, no_more, part_of, take_field, verb_of};
 
 use crate::pieces::cut;
 use crate::tokens::{read_number, read_token};
@@ -77,7 +77,8 @@ impl<'a> Fields<'a> {
     /// The client's number.
     #[tactic(auto, unfolding(crate::specs::Script::take_field))]
     pub fn client(&mut self) -> Result<u8, LineError>
-        ensures { Gives (λ client. (client, self.new)) result (take_field why.Client client_of self.old) }
+        ensures field { Gives (λ client. (client, self.new)) result (take_field why.Client client_of self.old) }
+        ensures bound { IfOk result (λ client. client < 16) }
     {
         let field = self.next().ok_or(LineError::Wrong(Why::Client))?;
         match read_number(field) {
@@ -98,7 +99,8 @@ impl<'a> Fields<'a> {
     /// The number of one of so many partitions.
     #[tactic(auto, unfolding(crate::specs::Script::take_field))]
     pub fn part(&mut self, parts: u16) -> Result<u16, LineError>
-        ensures { Gives (λ part. (part, self.new)) result (take_field why.Part (part_of parts) self.old) }
+        ensures field { Gives (λ part. (part, self.new)) result (take_field why.Part (part_of parts) self.old) }
+        ensures bound { IfOk result (λ part. part < parts) }
     {
         let field = self.next().ok_or(LineError::Wrong(Why::Part))?;
         match read_number(field) {
@@ -140,7 +142,8 @@ impl<'a> Fields<'a> {
     /// How many items a feed may have: 1 to 1,000.
     #[tactic(auto, unfolding(crate::specs::Script::take_field))]
     fn limit(&mut self) -> Result<u16, LineError>
-        ensures { Gives (λ limit. (limit, self.new)) result (take_field why.Number limit_of self.old) }
+        ensures field { Gives (λ limit. (limit, self.new)) result (take_field why.Number limit_of self.old) }
+        ensures bound { IfOk result (λ limit. (1 ≤ limit) × (limit ≤ 1000)) }
     {
         let field = self.next().ok_or(LineError::Wrong(Why::Number))?;
         match read_number(field) {
@@ -152,7 +155,8 @@ impl<'a> Fields<'a> {
     /// The call of a verb.
     #[tactic(auto, unfolding(crate::specs::Script::call_of))]
     pub fn call(&mut self, alloc: Global, verb: Verb) -> Result<Call, LineError>
-        ensures { Gives (λ call. (call, self.new)) result (call_of verb self.old) }
+        ensures field { Gives (λ call. (call, self.new)) result (call_of verb self.old) }
+        ensures spoken { IfOk result IsSpoken }
     {
         match verb {
             Verb::Set => {

@@ -1,7 +1,8 @@
 //! A script: a line for each call.
 
 ghost use Rattle.std.specs.Prelude.{◌≡◌, ◌≤◌, length, IfErr, IfOk, Ok};
-ghost use Rattle.mg_script.specs.Script.{fields_of, Gives, line_of, located, Refuses, script_of};
+ghost use Rattle.std.specs.List.{All};
+ghost use Rattle.mg_script.specs.Script.{fields_of, Gives, IsLine, line_of, located, Refuses, script_of};
 
 use crate::fields::{Fields, LineError};
 use crate::pieces::cut;
@@ -28,6 +29,7 @@ const SHORTEST_LINE: usize = 9;
 pub fn read_script(alloc: Global, bytes: &[u8], parts: u16) -> Result<Vec<Line>, Fault>
     ensures ok { IfOk result (λ lines. script_of parts bytes.now ≡ Ok lines.items) }
     ensures err { IfErr result (λ fault. Refuses fault (script_of parts bytes.now)) }
+    ensures lines { IfOk result (λ lines. All (IsLine parts) lines.items) }
     ensures few { IfOk result (λ lines. length lines.items ≤ length bytes.now) }
 {
     let mut lines = Vec::with_capacity(alloc, line_count(bytes))?;
@@ -58,7 +60,8 @@ fn line_count(bytes: &[u8]) -> usize {
 
 #[tactic(auto, unfolding(crate::specs::Script::line_of))]
 fn read_line(alloc: Global, line: &[u8], parts: u16) -> Result<Line, LineError>
-    ensures { Gives (λ line. line) result (line_of parts (fields_of line.now)) }
+    ensures line { Gives (λ line. line) result (line_of parts (fields_of line.now)) }
+    ensures form { IfOk result (IsLine parts) }
 {
     let mut fields = Fields::of(line);
     let client = fields.client()?;
