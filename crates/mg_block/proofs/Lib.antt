@@ -5,3 +5,4 @@ pub mod Loops
 pub mod Views
 pub mod Finding
 pub mod Listing
+pub mod Readings

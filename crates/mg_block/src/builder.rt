@@ -3,9 +3,10 @@ ghost use Rattle.mg_block.specs.Item.{spelled};
 ghost use Rattle.mg_block.specs.Block.{block_of, Follows, AreRising};
 ghost use Rattle.mg_block.specs.View.{last_pair};
 
-use super::key::{KeyBuffer, shared_len};
+use super::key::{KEY_LIMIT, KeyBuffer, PAYLOAD_LIMIT, shared_len};
 use super::pair::NoRoom;
 use std::alloc::{AllocError, Global};
+use std::cmp::Ordering;
 use std::marker::Model;
 
 /// Builds a block pair by pair, as LevelDB's `BlockBuilder` does.
@@ -37,6 +38,16 @@ impl BlockBuilder {
             bytes: Vec::new(alloc),
             last_key: KeyBuffer::new(),
         }
+    }
+
+    /// Whether the pair may stand at the end: its key is above the last one and has at most 250 bytes,
+    /// and its payload has at most 255.
+    pub fn may_push(&self, key: &[u8], payload: &[u8]) -> bool
+        ensures { IsTrue result ↔ Follows (last_pair self.now).key (record { key = key.now; payload = payload.now }) }
+    {
+        self.last_key.as_slice().cmp(key) == Ordering::Less
+            && key.len() <= KEY_LIMIT
+            && payload.len() <= PAYLOAD_LIMIT
     }
 
     /// Puts a pair at the end.

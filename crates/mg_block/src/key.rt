@@ -6,6 +6,9 @@ use std::marker::Model;
 /// The most bytes that a key has.
 pub const KEY_LIMIT: usize = 250;
 
+/// The most bytes that a payload has.
+pub const PAYLOAD_LIMIT: usize = 255;
+
 /// A key of at most 250 bytes, kept in place.
 #[derive(Drop)]
 pub struct KeyBuffer {

@@ -14,10 +14,15 @@ mod item;
 mod key;
 mod lookup;
 mod pair;
+mod reading;
 mod whole;
 
 pub use builder::BlockBuilder;
 pub use cursor::BlockCursor;
 pub use lookup::find;
 pub use pair::{BlockError, NoRoom, NotABlock, Pair};
+pub use reading::one_reading;
 pub use whole::{build, items};
+
+#[cfg(test)]
+mod tests;

@@ -43,6 +43,14 @@ impl From<NotABlock> for BlockError {
     }
 }
 
+impl From<NoRoom> for BlockError {
+    ghost from_gives = { λ _ e. e ≡ errors.NoMemory };
+
+    fn from(_refused: NoRoom) -> BlockError {
+        BlockError::NoMemory
+    }
+}
+
 impl From<AllocError> for BlockError {
     ghost from_gives = { λ _ e. e ≡ errors.NoMemory };
 
