@@ -1,10 +1,10 @@
 -- The fields of an item are read off its bytes, and those that extend a key spell a pair behind it.
-use Rattle.std.proofs.Common.{◌≡◌, ℕ, ◌+◌, ◌<◌, ◌≤◌, List, [], ◌∷◌, ◌++◌, length, get_or, take, drop, refl, sym, ap, subst, ◌∙◌, arith, append_assoc}
+use Rattle.std.proofs.Common.{◌≡◌, ℕ, ◌<◌, List, ◌∷◌, ◌++◌, length, get_or, take, drop, refl, sym, ap, subst, ◌∙◌, arith}
 use Rattle.std.proofs.lemmas.List.{take_at, drop_at, length-append, length-take-le}
 use Rattle.mg_block.specs.declared.pair.Pair.{Pair}
 use Rattle.mg_block.specs.Item.{counted, spelled, Extends}
-use Rattle.mg_block.specs.Block.{shared_len, item_of, Follows, NextItem}
-use Rattle.mg_block.proofs.Order.{Extends-from_Precedes, Stands, Stands-from_Extends}
+use Rattle.mg_block.specs.Block.{shared_len, item_of, NextItem}
+use Rattle.mg_block.proofs.Order.{Extends-from_Precedes, Stands-from_Extends}
 use Rattle.mg_block.proofs.Spelling.{pair_from, spelled-append}
 
 abbrev shared_field : List ℕ → ℕ

@@ -1,17 +1,13 @@
 -- A search in a block.
-use Rattle.std.proofs.Common.{◌≡◌, ℕ, ◌+◌, ◌<◌, ◌≤◌, ◌⊎◌, List, [], ◌∷◌, ◌++◌, length, get_or, take, drop, eqb, cond, true, false, Option, Some, None, refl, sym, ap, subst, ◌∙◌, arith, append_assoc, inl, inr}
-use Rattle.std.specs.Prelude.{find, option_map, ◌≢◌, ◌-◌, Result, Ok, Err, MatchResult, MatchOption, IsOkAnd}
+use Rattle.std.proofs.Common.{◌≡◌, ℕ, ◌+◌, ◌<◌, ◌≤◌, ◌⊎◌, List, [], ◌∷◌, ◌++◌, length, get_or, take, drop, eqb, Some, None, refl, sym, ap, subst, ◌∙◌, arith, append_assoc, inl, inr}
+use Rattle.std.specs.Prelude.{◌≢◌, ◌-◌}
 use Rattle.std.specs.Ordering.{nat_cmp}
 use Rattle.std.specs.Cmp.Lexicographic.{slice_cmp}
-use Rattle.std.specs.Str.{bytes_eq}
-use Rattle.std.specs.List.{AllByRecursion}
-use Rattle.std.proofs.lemmas.List.{length-append, length-drop, take-append-drop, append-nil}
+use Rattle.std.proofs.lemmas.List.{length-append, take-append-drop, append-nil}
 use Rattle.std.proofs.lemmas.List.Sums.{common_prefix_len-le}
-use Rattle.mg_block.specs.declared.pair.NotABlock.{NotABlock}
 use Rattle.mg_block.specs.declared.pair.Pair.{Pair}
-use Rattle.mg_block.specs.declared.lookup.Place.{Place}
 use Rattle.mg_block.specs.declared.lookup.Place.TheVariants.{Below, Here, Above}
-use Rattle.mg_block.specs.Block.{Precedes, shared_len, item_of, block_of, RiseAfter, IsBlock, Begins, BreaksAt, NextItem}
+use Rattle.mg_block.specs.Block.{Precedes, shared_len, item_of, RiseAfter, IsBlock, Begins, NextItem}
 use Rattle.mg_block.specs.Item.{Extends}
 use Rattle.mg_block.specs.Matches.{Matches}
 use Rattle.mg_block.specs.Place.{StandsAt}
@@ -186,11 +182,3 @@ Searched-bound bytes sought key rest matched s = omega (arith, s.matches.shared,
 
 pub NextItem-shorter : (key rest : List ℕ) (pair : Pair) (after : List ℕ) → NextItem key rest pair after → length after < length rest
 NextItem-shorter key rest pair after next = omega (arith, ap length next.spelling, length-append (item_of key pair) after, length-item_of key pair)
-
--- in a block the answer is that of its pairs
-pub payload_of-answer : (bytes sought : List ℕ) (all : List Pair) (out : List ℕ) (result : Result (Option ℕ) NotABlock) → IsBlock bytes all
-    → MatchResult result (λ found. MatchOption found (Misses bytes sought) (λ len. Finds bytes sought (take len out))) (λ refused. Breaks bytes sought refused.at)
-    → IsOkAnd result (λ found. option_map (λ len. take len out) found ≡ payload_of sought all)
-payload_of-answer bytes sought all out (Ok None) b h = sym (payload_of-Misses bytes sought all b h)
-payload_of-answer bytes sought all out (Ok (Some len)) b h = sym (payload_of-Finds bytes sought (take len out) all b h)
-payload_of-answer bytes sought all out (Err refused) b h = absurd (Breaks-no_block bytes sought refused.at all b h)

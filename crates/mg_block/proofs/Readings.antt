@@ -1,8 +1,8 @@
 -- Two readings of the same bytes.
-use Rattle.std.proofs.Common.{◌≡◌, ℕ, ◌+◌, ◌-◌, ◌<◌, ◌≤◌, ◌⊎◌, List, [], ◌∷◌, ◌++◌, length, drop, refl, sym, ap, subst, ◌∙◌, arith, append_assoc, inl, inr}
+use Rattle.std.proofs.Common.{◌≡◌, ℕ, ◌⊎◌, List, [], ◌∷◌, ◌++◌, length, drop, refl, sym, ap, subst, ◌∙◌, arith, append_assoc, inl, inr}
 use Rattle.std.proofs.lemmas.List.{length-append, length-drop, append-nil, append_cancel_left}
 use Rattle.mg_block.specs.declared.pair.Pair.{Pair}
-use Rattle.mg_block.specs.Block.{item_of, items_after, block_of, RiseAfter, IsBlock, Begins, BreaksAt}
+use Rattle.mg_block.specs.Block.{item_of, items_after, block_of, Begins, BreaksAt}
 use Rattle.mg_block.specs.View.{last_pair}
 use Rattle.mg_block.proofs.Spelling.{pair_from, first_pair-item_of, items_after-append, RiseAfter-front}
 use Rattle.mg_block.specs.View.{first_pair}

@@ -1,9 +1,9 @@
 -- A block's bytes spell one list of pairs.
-use Rattle.std.proofs.Common.{◌≡◌, ℕ, zero, suc, ◌+◌, ◌<◌, ◌≤◌, ◌⊎◌, List, [], ◌∷◌, ◌++◌, length, get_or, take, drop, refl, sym, ap, subst, ◌∙◌, arith, append_assoc, inl, inr}
+use Rattle.std.proofs.Common.{◌≡◌, ℕ, zero, suc, ◌≤◌, List, [], ◌∷◌, ◌++◌, length, get_or, take, drop, refl, sym, ap, subst, ◌∙◌, arith, append_assoc}
 use Rattle.std.proofs.lemmas.List.{take_at, drop_at, take-append-drop, length-append, length-drop, append-nil, append_cancel_left}
 use Rattle.mg_block.specs.declared.pair.Pair.{Pair}
 use Rattle.mg_block.specs.Item.{spelled}
-use Rattle.mg_block.specs.Block.{shared_len, item_of, items_after, block_of, Follows, RiseAfter, AreRising, IsBlock, Begins, BreaksAt, NextItem}
+use Rattle.mg_block.specs.Block.{shared_len, item_of, items_after, block_of, Follows, RiseAfter, IsBlock, Begins, BreaksAt, NextItem}
 use Rattle.mg_block.specs.View.{first_pair, pairs_after, pairs_of, last_pair, last_pair_after}
 use Rattle.mg_block.proofs.Order.{take-shared_len}
 

@@ -1,12 +1,12 @@
 -- What the bytes that a builder or a cursor keeps stand for.
-use Rattle.std.proofs.Common.{eqb, ◌≡◌, ℕ, ◌+◌, ◌-◌, ◌<◌, ◌≤◌, List, [], ◌∷◌, ◌++◌, length, take, drop, Bool, true, false, Result, Ok, Err, refl, sym, ap, subst, ◌∙◌, arith, append_assoc}
+use Rattle.std.proofs.Common.{eqb, ◌≡◌, ℕ, ◌+◌, ◌-◌, ◌<◌, List, [], ◌∷◌, ◌++◌, length, take, drop, Bool, true, false, Result, Ok, refl, sym, ap, subst, ◌∙◌, arith, append_assoc}
 use Rattle.std.specs.Prelude.{IsTrue, ◌↔◌}
 use Rattle.std.proofs.lemmas.Bool.{eqb-true, eq-eqb}
 use Rattle.std.proofs.lemmas.List.{take_at, drop_at, length-append, length-drop, append-nil, append_cancel_left, nil_from_length}
 use Rattle.mg_block.specs.declared.pair.NotABlock.{NotABlock}
 use Rattle.mg_block.specs.declared.pair.Pair.{Pair}
 use Rattle.mg_block.specs.Builder.{Holds}
-use Rattle.mg_block.specs.Block.{shared_len, item_of, items_after, block_of, Follows, AreRising, IsBlock, Begins, BreaksAt, NextItem}
+use Rattle.mg_block.specs.Block.{shared_len, item_of, block_of, Follows, IsBlock, Begins, BreaksAt, NextItem}
 use Rattle.mg_block.specs.View.{pairs_of, last_pair}
 use Rattle.mg_block.specs.Cursor.{Reading, read_of, StandsBehind, Advances, GoesOn}
 use Rattle.mg_block.proofs.Spelling.{pair_from, pairs_of-block_of, Begins-push, NextItem-from_Begins, last_pair_after-push, items_after-push, length-item_of, front_of_block, one_list, RiseAfter-push, Begins-front, BreaksAt-no_block}

@@ -1,6 +1,6 @@
 -- A cursor over the bytes of a block.
 use Rattle.std.specs.Prelude.{◌≡◌, ℕ, Bool, true, false, List, [], ◌∷◌, ◌++◌, ◌-◌, length, take, Result, Ok}
-use Rattle.mg_block.specs.Block.{Begins, IsBlock}
+use Rattle.mg_block.specs.Block.{Begins}
 use Rattle.mg_block.specs.View.{pairs_of, last_pair}
 use Rattle.mg_block.specs.declared.pair.NotABlock.{NotABlock}
 use Rattle.mg_block.specs.declared.pair.Pair.{Pair}

@@ -1,5 +1,5 @@
 -- Where a key stands beside a sought one.
-use Rattle.std.specs.Prelude.{◌≡◌, ℕ, List, [], ◌⊎◌}
+use Rattle.std.specs.Prelude.{◌≡◌, ℕ, List}
 use Rattle.mg_block.specs.Block.{Precedes, shared_len}
 use Rattle.mg_block.specs.declared.lookup.Place.{Place}
 use Rattle.mg_block.specs.declared.lookup.Place.TheVariants.{Below, Here, Above}

@@ -1,5 +1,5 @@
 -- What a search for a key says of bytes: it reads from the front, as far as the first key that is not below the sought one.
-use Rattle.std.specs.Prelude.{◌≡◌, ℕ, List, [], ◌∷◌, ◌++◌, ◌⊎◌, Option, find, option_map}
+use Rattle.std.specs.Prelude.{ℕ, List, [], ◌∷◌, ◌++◌, ◌⊎◌, Option, find, option_map}
 use Rattle.std.specs.List.{AllByRecursion}
 use Rattle.std.specs.Str.{bytes_eq}
 use Rattle.mg_block.specs.Block.{Precedes, Begins, BreaksAt, IsBlock}

@@ -12,7 +12,7 @@ pub const PAYLOAD_LIMIT: usize = 255;
 /// A key of at most 250 bytes, kept in place.
 #[derive(Drop)]
 pub struct KeyBuffer {
-    bytes: [u8; 250],
+    bytes: [u8; KEY_LIMIT],
     len: usize,
 }
 
@@ -31,7 +31,7 @@ impl KeyBuffer {
         ensures { result ≡ [] }
     {
         KeyBuffer {
-            bytes: [0; 250],
+            bytes: [0; KEY_LIMIT],
             len: 0,
         }
     }

@@ -23,23 +23,8 @@ pub fn find(block: &[u8], key: &[u8], out: &mut [u8; 255]) -> Result<Option<u8>,
         (λ len. Finds block.now key.now (take len out.new)))
         (λ refused. Breaks block.now key.now refused.at) }
     // In a block it is the answer of the list.
-    ensures block { (pairs : List Pair) → IsBlock block.now pairs → IsOkAnd result (λ found.
+    ensures in_block { (pairs : List Pair) → IsBlock block.now pairs → IsOkAnd result (λ found.
         option_map (λ len. take len out.new) found ≡ payload_of key.now pairs) }
-    ensures beyond { IfOk result (λ found. MatchOption found
-        (out.new ≡ out.old)
-        (λ len. drop len out.new ≡ drop len out.old)) }
-    ensures err { OnErr result (out.new ≡ out.old) }
-{
-    search(block, key, out)
-}
-
-/// As [`find`].
-fn search(block: &[u8], key: &[u8], out: &mut [u8; 255]) -> Result<Option<u8>, NotABlock>
-    ensures answer { MatchResult result
-        (λ found. MatchOption found
-        (Misses block.now key.now)
-        (λ len. Finds block.now key.now (take len out.new)))
-        (λ refused. Breaks block.now key.now refused.at) }
     ensures beyond { IfOk result (λ found. MatchOption found
         (out.new ≡ out.old)
         (λ len. drop len out.new ≡ drop len out.old)) }

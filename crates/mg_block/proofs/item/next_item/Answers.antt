@@ -1,7 +1,6 @@
-use Rattle.std.proofs.Common.{◌≡◌, ℕ, List, refl}
+use Rattle.std.proofs.Common.{refl}
 use Rattle.std.proofs.lemmas.Bool.{iff_false}
-use Rattle.mg_block.specs.declared.pair.Pair.{Pair}
-use Rattle.mg_block.specs.Block.{item_of, NextItem}
+use Rattle.mg_block.specs.Block.{item_of}
 use Rattle.mg_block.proofs.Fields.{NextItem-from_spelled, Extends-from_NextItem}
 use Rattle.mg_block.proofs.item.next_item.Goals as goal
 

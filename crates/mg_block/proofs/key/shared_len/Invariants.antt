@@ -1,5 +1,4 @@
-use Rattle.std.proofs.Common.{length, ◌-◌, ◌≡◌, ◌+◌, ◌≤◌, drop}
-use Rattle.mg_block.specs.Block.{shared_len}
+use Rattle.std.proofs.Common.{length, ◌-◌}
 use Rattle.mg_block.proofs.Loops.{SharesSoFar}
 use Rattle.mg_block.proofs.key.shared_len.Given as goal
 

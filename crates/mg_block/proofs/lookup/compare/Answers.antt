@@ -1,5 +1,4 @@
-use Rattle.std.proofs.Common.{◌≡◌, ℕ, ◌<◌, ◌≤◌, ◌⊎◌, List, length, get_or, ap, sym, refl, ◌∙◌, subst, inl, inr, arith}
-use Rattle.mg_block.specs.Matches.{Matches}
+use Rattle.std.proofs.Common.{◌≡◌, ◌<◌, ◌≤◌, ◌⊎◌, length, get_or, inl, inr, arith}
 use Rattle.mg_block.proofs.Finding.{Tail, StandsAt-longer, StandsAt-shorter, StandsAt-below, StandsAt-here, StandsAt-above, above_from_not_below}
 use Rattle.mg_block.proofs.lookup.compare.Goals as goal
 use Rattle.mg_block.proofs.lookup.compare.Goals.{then-len-item-2, else-len-item-2}

@@ -1,4 +1,4 @@
-use Rattle.std.proofs.Common.{◌≡◌, ℕ, List, take, get_or, ap, sym, ◌∙◌, subst, arith}
+use Rattle.std.proofs.Common.{◌≡◌, List, get_or, sym, ◌∙◌, subst, arith}
 use Rattle.mg_block.specs.declared.pair.Pair.{Pair}
 use Rattle.mg_block.specs.Block.{Follows}
 use Rattle.mg_block.specs.View.{last_pair}

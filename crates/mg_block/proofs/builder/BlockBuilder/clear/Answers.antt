@@ -1,4 +1,4 @@
-use Rattle.std.proofs.Common.{◌≡◌, ap, ◌∙◌}
+use Rattle.std.proofs.Common.{ap, ◌∙◌}
 use Rattle.mg_block.specs.View.{pairs_of}
 use Rattle.mg_block.proofs.Views.{Holds-none, pairs_of-none}
 use Rattle.mg_block.proofs.builder.BlockBuilder.clear.Goals as goal

@@ -1,4 +1,4 @@
-use Rattle.std.proofs.Common.{◌≡◌, ℕ, List, [], ◌↔◌, Bool, true, eqb, vec_len, ap, sym, ◌∙◌, subst, arith}
+use Rattle.std.proofs.Common.{◌≡◌, List, [], ◌↔◌, subst, arith}
 use Rattle.std.specs.Prelude.{IsTrue}
 use Rattle.mg_block.specs.declared.pair.Pair.{Pair}
 use Rattle.mg_block.proofs.Views.{is_empty_by_bytes}

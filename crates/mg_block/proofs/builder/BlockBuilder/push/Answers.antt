@@ -1,4 +1,4 @@
-use Rattle.std.proofs.Common.{◌≡◌, ℕ, List, [], ◌∷◌, ◌++◌, take, drop, ap, sym, refl, ◌∙◌, subst, arith}
+use Rattle.std.proofs.Common.{◌≡◌, ℕ, List, [], ◌∷◌, ◌++◌, take, drop, ap, sym, ◌∙◌, subst, arith}
 use Rattle.mg_block.specs.declared.pair.Pair.{Pair}
 use Rattle.mg_block.specs.Item.{spelled}
 use Rattle.mg_block.specs.Builder.{Holds}

@@ -1,4 +1,4 @@
-use Rattle.std.proofs.Common.{◌≡◌, List, ℕ, [], subst, sym}
+use Rattle.std.proofs.Common.{List, ℕ, [], subst, sym}
 use Rattle.mg_block.specs.Cursor.{StandsBehind, read_of}
 use Rattle.mg_block.proofs.Views.{StandsBehind-none, read_of-none}
 use Rattle.mg_block.proofs.cursor.BlockCursor.new.Goals as goal
