@@ -1,0 +1,15 @@
+use Rattle.std.proofs.Common.{◌≡◌, ◌≤◌, ◌++◌, List, ℕ, length}
+use Rattle.std.specs.Io.KnownBytes.{Appends}
+use Rattle.mg_run.specs.Runs.{WritesFront}
+use Rattle.mg_run.proofs.streams.write_all.Given as goal
+
+abbrev pub invariant-loop-rest : goal.invariant-loop-rest
+invariant-loop-rest g l = record {
+  front : List ℕ;
+  split : l.bytes ≡ front ++ l.rest;
+  text : Appends (g.K.Sink.written l.fn.out) (g.K.Sink.written l.out) front;
+  later : g.K.Sink.faults l.fn.out ≤ g.K.Sink.faults l.out;
+}
+
+abbrev pub decreases-loop-rest : goal.decreases-loop-rest
+decreases-loop-rest g l = length l.rest

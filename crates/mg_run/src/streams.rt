@@ -1,0 +1,75 @@
+//! The whole input, and whole pieces of output.
+
+ghost use Rattle.std.specs.Prelude.{◌≡◌, ◌+◌, ◌≤◌, ◌<◌, length, IfOk, MatchResult};
+ghost use Rattle.std.specs.Io.KnownBytes.{Appends};
+ghost use Rattle.mg_run.specs.Runs.{ReadsAll, script_limit, StopsReading, StopsWriting, TakesPiece};
+
+use mg_io::{IoError, Sink, Source};
+use mg_model::Fault;
+use std::alloc::Global;
+
+/// The most bytes of a script.
+pub const SCRIPT_LIMIT: usize = 67_108_864;
+
+/// How many bytes are asked for at once.
+const PIECE: usize = 16_384;
+
+/// All bytes of the input, up to its end.
+///
+/// `TooLong` comes once one byte more than the limit was taken, and `ReadFault` where a read failed.
+pub fn read_all<S: Source>(alloc: Global, input: &mut S) -> Result<Vec<u8>, Fault>
+    ensures read { MatchResult result (λ bytes. ReadsAll (S.left input.old) (S.left input.new) bytes.items)
+        (λ fault. StopsReading (S.left input.old) (S.left input.new) (S.faults input.old) (S.faults input.new) fault) }
+{
+    let mut bytes = Vec::new(alloc);
+    let mut buffer = [0u8; PIECE];
+    while bytes.len() <= SCRIPT_LIMIT {
+        if read_piece(input, &mut buffer, &mut bytes)? == 0 {
+            return Ok(bytes);
+        }
+    }
+    Err(Fault::TooLong {
+        limit: SCRIPT_LIMIT as u64,
+    })
+}
+
+/// Reads once, and appends what was read. It never takes more than one byte past the limit.
+fn read_piece<S: Source>(
+    input: &mut S,
+    buffer: &mut [u8],
+    bytes: &mut Vec<u8>,
+) -> Result<usize, Fault>
+    requires room { 1 ≤ length buffer.old }
+    requires limit { length bytes.old.items ≤ script_limit }
+    ensures later { S.faults input.old ≤ S.faults input.new }
+    ensures taken { MatchResult result (λ count. TakesPiece (S.left input.old) (S.left input.new) bytes.old.items bytes.new.items count)
+        (λ fault. StopsReading (S.left input.old) (S.left input.new) (S.faults input.old) (S.faults input.new) fault) }
+{
+    let room = (SCRIPT_LIMIT + 1 - bytes.len()).min(buffer.len());
+    let piece = &mut buffer[..room];
+    let count = match input.read(piece) {
+        Ok(count) => count,
+        Err(IoError::NoMemory) => return Err(Fault::NoMemory),
+        Err(IoError::Failed) => return Err(Fault::ReadFault),
+    };
+    bytes.extend_from_slice(&piece[..count])?;
+    Ok(count)
+}
+
+/// Writes all of some bytes, in as many calls as it takes. After an error a front of them was written.
+pub fn write_all<K: Sink>(out: &mut K, bytes: &[u8]) -> Result<(), Fault>
+    ensures later { K.faults out.old ≤ K.faults out.new }
+    ensures wrote { MatchResult result (λ _. Appends (K.written out.old) (K.written out.new) bytes.now)
+        (λ fault. StopsWriting (K.written out.old) (K.written out.new) (K.faults out.old) (K.faults out.new) bytes.now fault) }
+{
+    let mut rest = bytes;
+    while !rest.is_empty() {
+        let count = match out.write(rest) {
+            Ok(count) => count,
+            Err(IoError::NoMemory) => return Err(Fault::NoMemory),
+            Err(IoError::Failed) => return Err(Fault::WriteFault),
+        };
+        rest = &rest[count..];
+    }
+    Ok(())
+}
