@@ -1,0 +1,2 @@
+pub mod BigEndianLaws
+pub mod FrameLaws
