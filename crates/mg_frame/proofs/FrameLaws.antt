@@ -55,11 +55,11 @@ AreBytes-digest bytes = AreBytes-take 8 (sha256 bytes) (AreBytes-digest_bytes (f
 
 -- ---- a frame that was written is taken again
 
-covered_parts : (number : ℕ) (body rest : List ℕ) → covered number body ++ rest ≡ big_endian 4 (length body) ++ (big_endian 8 number ++ (body ++ rest))
+pub covered_parts : (number : ℕ) (body rest : List ℕ) → covered number body ++ rest ≡ big_endian 4 (length body) ++ (big_endian 8 number ++ (body ++ rest))
 unfolding covered
 covered_parts number body rest = simp append_assoc
 
-frame_covered : (number : ℕ) (body rest : List ℕ) → frame number body ++ rest ≡ covered number body ++ (digest (covered number body) ++ rest)
+pub frame_covered : (number : ℕ) (body rest : List ℕ) → frame number body ++ rest ≡ covered number body ++ (digest (covered number body) ++ rest)
 unfolding frame
 frame_covered number body rest = append_assoc (covered number body) (digest (covered number body)) rest
 
@@ -83,7 +83,7 @@ said_length-frame number body rest fits = ap said_length (frame_covered number b
 pub said_number-frame : (number : ℕ) (body rest : List ℕ) → number < 2 ^ 64 → said_number (frame number body ++ rest) ≡ number
 said_number-frame number body rest fits = ap said_number (frame_covered number body rest) ∙ said_number-covered number body (digest (covered number body) ++ rest) fits
 
-said_digest-frame : (number : ℕ) (body rest : List ℕ) → length body < 2 ^ 32 → said_digest (frame number body ++ rest) ≡ big_endian_value (digest (covered number body))
+pub said_digest-frame : (number : ℕ) (body rest : List ℕ) → length body < 2 ^ 32 → said_digest (frame number body ++ rest) ≡ big_endian_value (digest (covered number body))
 unfolding said_digest
 said_digest-frame number body rest fits =
     let left = frame number body ++ rest in
@@ -93,7 +93,7 @@ said_digest-frame number body rest fits =
     ∙ ap (λ xs. big_endian_value (take 8 xs)) (drop_at (covered number body) tail (length body + 12) (length-covered number body))
     ∙ ap big_endian_value (take_at (digest (covered number body)) rest 8 (length-digest (covered number body)))
 
-true_digest-frame : (number : ℕ) (body rest : List ℕ) → length body < 2 ^ 32 → true_digest (frame number body ++ rest) ≡ big_endian_value (digest (covered number body))
+pub true_digest-frame : (number : ℕ) (body rest : List ℕ) → length body < 2 ^ 32 → true_digest (frame number body ++ rest) ≡ big_endian_value (digest (covered number body))
 unfolding true_digest
 true_digest-frame number body rest fits =
     let left = frame number body ++ rest in
@@ -145,7 +145,7 @@ digest_back left small enough intact =
     same_from_value (take 8 rest) (digest (take (said_length left + 12) left)) (len ∙ sym (length-digest (take (said_length left + 12) left)))
     (AreBytes-take 8 rest (AreBytes-drop (said_length left + 12) left small)) (AreBytes-digest (take (said_length left + 12) left)) intact
 
-whole_spelled : (left : List ℕ) (number : ℕ) → AreBytes left → said_length left + 20 ≤ length left → said_number left ≡ number → said_digest left ≡ true_digest left
+pub whole_spelled : (left : List ℕ) (number : ℕ) → AreBytes left → said_length left + 20 ≤ length left → said_number left ≡ number → said_digest left ≡ true_digest left
     → left ≡ frame number (take (said_length left) (drop 12 left)) ++ drop (said_length left + 20) left
 unfolding frame
 whole_spelled left number small enough same intact =

@@ -4,6 +4,7 @@
 
 mod fields;
 mod frame;
+pub mod laws;
 #[cfg(test)]
 mod tests;
 
