@@ -9,8 +9,8 @@ use Rattle.std.specs.Prelude.{slice_range, if◌then◌else◌}
 use Rattle.sha2.specs.Sha256.{sha256, digest_bytes, final_hash, initial_hash_256}
 use Rattle.sha2.proofs.Facts256.{length-sha256}
 use Rattle.mg_frame.specs.BigEndian.{AreBytes, big_endian, big_endian_value}
-use Rattle.mg_frame.proofs.BigEndianLaws.{length-big_endian, AreBytes-big_endian, big_endian_value-big_endian, front_back, same_from_value, AreBytes-take, AreBytes-drop, AreBytes-append}
-use Rattle.mg_frame.specs.Frame.{digest, covered, frame, said_length, said_number, said_digest, true_digest, compared, judged, taken, IsFrameAt, Means, TakesWritten}
+use Rattle.mg_frame.proofs.BigEndianLaws.{length-big_endian, AreBytes-big_endian, big_endian_value-big_endian, big_endian_value-lt, front_back, same_from_value, AreBytes-take, AreBytes-drop, AreBytes-append}
+use Rattle.mg_frame.specs.Frame.{digest, covered, frame, said_length, said_number, said_digest, true_digest, compared, judged, taken, IsFrameAt, StandsAt, BeginsWithNone, Means, TakesWritten}
 use Rattle.mg_frame.specs.declared.frame.Taken.TheVariants.{Whole, Number, Torn}
 
 pub length-digest : (bytes : List ℕ) → length (digest bytes) ≡ 8
@@ -159,7 +159,61 @@ whole_spelled left number small enough same intact =
     ∙ ap (λ xs. xs ++ drop (size + 20) left) front
     ∙ take-append-drop (size + 20) left)
 
+-- ---- no frame, of whatever number
+
+pub none_if_short : (bytes : List ℕ) → length bytes < said_length bytes + 20 → BeginsWithNone bytes
+unfolding BeginsWithNone
+none_if_short bytes short = λ entry rest fits is.
+    let said : said_length bytes ≡ length entry.1 = ap said_length is ∙ said_length-frame entry.0 entry.1 rest fits.body_fits in
+    omega (arith, ap length is, length-append (frame entry.0 entry.1) rest, length-frame entry.0 entry.1)
+
+pub none_if_torn : (bytes : List ℕ) → (said_digest bytes ≡ true_digest bytes → ⊥) → BeginsWithNone bytes
+unfolding BeginsWithNone
+none_if_torn bytes torn = λ entry rest fits is.
+    torn (ap said_digest is ∙ said_digest-frame entry.0 entry.1 rest fits.body_fits ∙ sym (true_digest-frame entry.0 entry.1 rest fits.body_fits) ∙ sym (ap true_digest is))
+
+none_if_few : (bytes : List ℕ) → length bytes < 12 → BeginsWithNone bytes
+unfolding BeginsWithNone
+none_if_few bytes few = λ entry rest fits is. omega (arith, ap length is, length-append (frame entry.0 entry.1) rest, length-frame entry.0 entry.1)
+
+-- ---- the ranges of what a header says
+
+pub number_fits : (bytes : List ℕ) → AreBytes bytes → 12 ≤ length bytes → said_number bytes < 2 ^ 64
+unfolding said_number
+number_fits bytes small enough =
+    let field = take 8 (drop 4 bytes) in
+    let len : length field ≡ 8 = length-take-le 8 (drop 4 bytes) (omega (arith, length-drop 4 bytes)) in
+    let below : big_endian_value field < 256 ^ length field = big_endian_value-lt field (AreBytes-take 8 (drop 4 bytes) (AreBytes-drop 4 bytes small)) in
+    rw len at below
+
+pub length_fits : (bytes : List ℕ) → AreBytes bytes → 4 ≤ length bytes → said_length bytes < 2 ^ 32
+unfolding said_length
+length_fits bytes small enough =
+    let field = take 4 bytes in
+    let len : length field ≡ 4 = length-take-le 4 bytes enough in
+    let below : big_endian_value field < 256 ^ length field = big_endian_value-lt field (AreBytes-take 4 bytes small) in
+    rw len at below
+
 -- ---- what each answer means
+
+slice_body : (bytes : List ℕ) (at size : ℕ) → slice_range bytes (at + 12) (at + 12 + size) ≡ take size (drop 12 (drop at bytes))
+slice_body bytes at size = ap (λ k. take k (drop (at + 12) bytes)) (omega arith) ∙ ap (take size) (sym (drop-drop 12 at bytes))
+
+StandsAt-whole : (bytes : List ℕ) (at number next : ℕ) → AreBytes bytes → at ≤ length bytes → said_length (drop at bytes) + 20 ≤ length (drop at bytes)
+    → said_number (drop at bytes) ≡ number → IsFrameAt bytes at number (at + 12) (at + 12 + said_length (drop at bytes)) next
+    → StandsAt bytes at (number, slice_range bytes (at + 12) (at + 12 + said_length (drop at bytes)))
+StandsAt-whole bytes at number next small within enough same frame_at =
+    let left = drop at bytes in
+    let size = said_length left in
+    let small' = AreBytes-drop at bytes small in
+    let below : said_number left < 2 ^ 64 = number_fits left small' (omega arith) in
+    let len : length (slice_range bytes (at + 12) (at + 12 + size)) ≡ size =
+    ap length (slice_body bytes at size) ∙ length-take-le size (drop 12 left) (omega (arith, length-drop 12 left)) in
+    record {
+      fits = record { number_fits = rw same at below; body_fits = rw len (length_fits left small' (omega arith)) };
+      rest = drop next bytes;
+      spelled = frame_at.spelled;
+    }
 
 IsFrameAt-whole : (bytes : List ℕ) (at number : ℕ) → AreBytes bytes → at ≤ length bytes → said_length (drop at bytes) + 20 ≤ length (drop at bytes)
     → said_number (drop at bytes) ≡ number → said_digest (drop at bytes) ≡ true_digest (drop at bytes)
@@ -167,8 +221,7 @@ IsFrameAt-whole : (bytes : List ℕ) (at number : ℕ) → AreBytes bytes → at
 IsFrameAt-whole bytes at number small within enough same intact =
     let left = drop at bytes in
     let size = said_length left in
-    let body : slice_range bytes (at + 12) (at + 12 + size) ≡ take size (drop 12 left) =
-    ap (λ k. take k (drop (at + 12) bytes)) (omega arith) ∙ ap (take size) (sym (drop-drop 12 at bytes)) in
+    let body = slice_body bytes at size in
     let rest : drop (at + 20 + size) bytes ≡ drop (size + 20) left = ap (λ k. drop k bytes) (omega arith) ∙ sym (drop-drop (size + 20) at bytes) in
     record {
       begins = refl;
@@ -185,8 +238,9 @@ unfolding compared
 means_by_digest bytes at number small within enough same =
     let left = drop at bytes in
     elim (cases_eq (said_digest left) (true_digest left)) [
-      | inl intact ↦ rw (eq-eqb (said_digest left) (true_digest left) intact) (IsFrameAt-whole bytes at number small within enough same intact)
-      | inr torn ↦ rw (ne_eqb (said_digest left) (true_digest left) torn) torn
+      | inl intact ↦ rw (eq-eqb (said_digest left) (true_digest left) intact)
+          (let frame_at = IsFrameAt-whole bytes at number small within enough same intact in (frame_at, StandsAt-whole bytes at number _ small within enough same frame_at))
+      | inr torn ↦ rw (ne_eqb (said_digest left) (true_digest left) torn) (torn, none_if_torn left torn)
     ]
 
 means_by_number : (bytes : List ℕ) (at number : ℕ) → AreBytes bytes → at ≤ length bytes → said_length (drop at bytes) + 20 ≤ length (drop at bytes)
@@ -205,10 +259,10 @@ Means-taken bytes at number small within =
     elim (cases_eq (length left) 0) [
       | inl none ↦ rw (eq-eqb (length left) 0 none) (nil_from_length left none)
       | inr some ↦ elim (cases_lt (length left) 12) [
-        | inl short ↦ rw (ne_eqb (length left) 0 some, lt-ltb (length left) 12 short) (refl, short, inl refl)
+        | inl short ↦ rw (ne_eqb (length left) 0 some, lt-ltb (length left) 12 short) (refl, short, inl refl, none_if_few left short)
         | inr header ↦ elim (cases_lt (length left) (said_length left + 20)) [
           | inl short ↦
-              rw (ne_eqb (length left) 0 some, le-ltb (length left) 12 header, lt-ltb (length left) (said_length left + 20) short) (refl, short, inr refl)
+              rw (ne_eqb (length left) 0 some, le-ltb (length left) 12 header, lt-ltb (length left) (said_length left + 20) short) (refl, short, inr refl, none_if_short left short)
           | inr enough ↦
               rw (ne_eqb (length left) 0 some, le-ltb (length left) 12 header, le-ltb (length left) (said_length left + 20) enough)
               (means_by_number bytes at number small within enough)

@@ -1,15 +1,15 @@
 -- Laws of frames one after another: one reading, and what a torn log gives.
-use Rattle.std.proofs.Common.{◌≡◌, ℕ, ◌+◌, ◌^◌, ◌<◌, ◌≤◌, ◌⊎◌, List, [], ◌∷◌, ◌++◌, length, take, drop, refl, sym, ap, subst, ◌∙◌, arith, inl, inr, suc}
+use Rattle.std.proofs.Common.{◌≡◌, ℕ, ◌+◌, ◌≤◌, ◌⊎◌, List, [], ◌∷◌, ◌++◌, length, take, drop, refl, sym, ap, subst, ◌∙◌, arith, inl, inr, suc}
 use Rattle.std.proofs.Math.Seq.{take-add}
 use Rattle.std.proofs.lemmas.List.{take_at, drop_at, length-take-le, length-append, length-drop, take-append-drop, append_assoc, append-nil, append_cancel_left}
 use Rattle.std.proofs.lemmas.List.Elements.{All-head, All-tail, All-drop}
 use Rattle.std.proofs.lemmas.Bool.{cases_lt, cases_eq}
 use Rattle.std.specs.List.{All}
-use Rattle.mg_frame.specs.BigEndian.{AreBytes, big_endian, big_endian_value}
-use Rattle.mg_frame.proofs.BigEndianLaws.{big_endian_value-lt, AreBytes-take, AreBytes-drop}
-use Rattle.mg_frame.specs.Frame.{digest, covered, frame, said_length, said_number, said_digest, true_digest}
-use Rattle.mg_frame.proofs.FrameLaws.{length-frame, said_length-frame, said_number-frame, said_digest-frame, true_digest-frame, whole_spelled, covered_parts, frame_covered}
-use Rattle.mg_frame.specs.Frames.{frames, IsEntry, BeginsWithNone, NoChance, TornLogLaw, OneReadingLaw}
+use Rattle.mg_frame.specs.BigEndian.{AreBytes, big_endian}
+use Rattle.mg_frame.proofs.BigEndianLaws.{AreBytes-drop}
+use Rattle.mg_frame.specs.Frame.{digest, covered, frame, said_length, said_number, said_digest, true_digest, IsEntry, BeginsWithNone}
+use Rattle.mg_frame.proofs.FrameLaws.{length-frame, said_length-frame, said_number-frame, whole_spelled, none_if_short, none_if_torn, number_fits, length_fits, covered_parts, frame_covered}
+use Rattle.mg_frame.specs.Frames.{frames, NoChance, TornLogLaw, OneReadingLaw}
 
 Entry : Type 0
 Entry = ℕ × List ℕ
@@ -69,33 +69,6 @@ record Begins (bytes : List ℕ) : Type 0 where
   pub rest : List ℕ
   pub fits : IsEntry entry
   pub spelled : bytes ≡ frame entry.0 entry.1 ++ rest
-
-none_if_short : (bytes : List ℕ) → length bytes < said_length bytes + 20 → BeginsWithNone bytes
-unfolding BeginsWithNone
-none_if_short bytes short = λ entry rest fits is.
-    let said : said_length bytes ≡ length entry.1 = ap said_length is ∙ said_length-frame entry.0 entry.1 rest fits.body_fits in
-    omega (arith, ap length is, length-append (frame entry.0 entry.1) rest, length-frame entry.0 entry.1)
-
-none_if_torn : (bytes : List ℕ) → (said_digest bytes ≡ true_digest bytes → ⊥) → BeginsWithNone bytes
-unfolding BeginsWithNone
-none_if_torn bytes torn = λ entry rest fits is.
-    torn (ap said_digest is ∙ said_digest-frame entry.0 entry.1 rest fits.body_fits ∙ sym (true_digest-frame entry.0 entry.1 rest fits.body_fits) ∙ sym (ap true_digest is))
-
-number_fits : (bytes : List ℕ) → AreBytes bytes → 12 ≤ length bytes → said_number bytes < 2 ^ 64
-unfolding said_number
-number_fits bytes small enough =
-    let field = take 8 (drop 4 bytes) in
-    let len : length field ≡ 8 = length-take-le 8 (drop 4 bytes) (omega (arith, length-drop 4 bytes)) in
-    let below : big_endian_value field < 256 ^ length field = big_endian_value-lt field (AreBytes-take 8 (drop 4 bytes) (AreBytes-drop 4 bytes small)) in
-    rw len at below
-
-length_fits : (bytes : List ℕ) → AreBytes bytes → 4 ≤ length bytes → said_length bytes < 2 ^ 32
-unfolding said_length
-length_fits bytes small enough =
-    let field = take 4 bytes in
-    let len : length field ≡ 4 = length-take-le 4 bytes enough in
-    let below : big_endian_value field < 256 ^ length field = big_endian_value-lt field (AreBytes-take 4 bytes small) in
-    rw len at below
 
 begins_or_none : (bytes : List ℕ) → AreBytes bytes → BeginsWithNone bytes ⊎ Begins bytes
 begins_or_none bytes small = elim (cases_lt (length bytes) (said_length bytes + 20)) [

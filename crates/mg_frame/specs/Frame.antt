@@ -60,13 +60,28 @@ pub record IsFrameAt (bytes : List ℕ) (at number start end next : ℕ) : Type 
   pub within : next ≤ length bytes
   pub spelled : drop at bytes ≡ frame number (slice_range bytes start end) ++ drop next bytes
 
+-- a number and a body that a frame can have
+pub record IsEntry (entry : ℕ × List ℕ) : Type 0 where
+  pub number_fits : entry.0 < 2 ^ 64
+  pub body_fits : length entry.1 < 2 ^ 32
+
+-- the whole frame of this number and body stands in the bytes at the place `at`
+pub record StandsAt (bytes : List ℕ) (at : ℕ) (entry : ℕ × List ℕ) : Type 0 where
+  pub fits : IsEntry entry
+  pub rest : List ℕ
+  pub spelled : drop at bytes ≡ frame entry.0 entry.1 ++ rest
+
+-- the bytes begin with no whole frame, of whatever number
+unfoldable pub BeginsWithNone : List ℕ → Type 0
+BeginsWithNone bytes = (entry : ℕ × List ℕ) (rest : List ℕ) → IsEntry entry → bytes ≡ frame entry.0 entry.1 ++ rest → ⊥
+
 -- what each answer says of the bytes from `at` on
 abbrev pub Means : List ℕ → ℕ → ℕ → Taken → Type 0
-Means bytes at number (Whole start end next) = IsFrameAt bytes at number start end next
+Means bytes at number (Whole start end next) = IsFrameAt bytes at number start end next × StandsAt bytes at (number, slice_range bytes start end)
 Means bytes at number End = drop at bytes ≡ []
-Means bytes at number (Short want have) = (have ≡ length (drop at bytes)) × (have < want) × ((want ≡ 12) ⊎ (want ≡ said_length (drop at bytes) + 20))
+Means bytes at number (Short want have) = (have ≡ length (drop at bytes)) × (have < want) × ((want ≡ 12) ⊎ (want ≡ said_length (drop at bytes) + 20)) × BeginsWithNone (drop at bytes)
 Means bytes at number (Number kept asked) = (asked ≡ number) × (kept ≢ asked)
-Means bytes at number (Torn kept found) = kept ≢ found
+Means bytes at number (Torn kept found) = (kept ≢ found) × BeginsWithNone (drop at bytes)
 
 -- what stands before a frame and what follows it are free: where the frame of a body stands at `at`, this is the answer
 abbrev pub TakesWritten : List ℕ → ℕ → ℕ → Taken → Type 0

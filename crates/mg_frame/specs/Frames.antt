@@ -1,8 +1,8 @@
 -- Frames one after another, as sealed files and logs hold them, and what a crash may leave of a log.
-use Rattle.std.specs.Prelude.{◌≡◌, ℕ, ◌<◌, ◌≤◌, ◌^◌, List, [], ◌∷◌, ◌++◌, length, take, drop}
+use Rattle.std.specs.Prelude.{◌≡◌, ℕ, ◌≤◌, List, [], ◌∷◌, ◌++◌, length, take}
 use Rattle.std.specs.List.{All, enumerate_from}
 use Rattle.mg_frame.specs.BigEndian.{AreBytes}
-use Rattle.mg_frame.specs.Frame.{frame}
+use Rattle.mg_frame.specs.Frame.{frame, IsEntry, StandsAt, BeginsWithNone}
 
 -- the frames of these numbers and bodies, one after another
 unfoldable pub frames : List (ℕ × List ℕ) → List ℕ
@@ -12,21 +12,6 @@ frames (entry ∷ entries) = frame entry.0 entry.1 ++ frames entries
 -- the frames of these bodies, numbered 0, 1, 2 in order of place
 unfoldable pub numbered_frames : List (List ℕ) → List ℕ
 numbered_frames bodies = frames (enumerate_from 0 bodies)
-
--- a number and a body that a frame can have
-pub record IsEntry (entry : ℕ × List ℕ) : Type 0 where
-  pub number_fits : entry.0 < 2 ^ 64
-  pub body_fits : length entry.1 < 2 ^ 32
-
--- the whole frame of this number and body stands in the bytes at the place `at`
-pub record StandsAt (bytes : List ℕ) (at : ℕ) (entry : ℕ × List ℕ) : Type 0 where
-  pub fits : IsEntry entry
-  pub rest : List ℕ
-  pub spelled : drop at bytes ≡ frame entry.0 entry.1 ++ rest
-
--- the bytes begin with no whole frame, of whatever number
-unfoldable pub BeginsWithNone : List ℕ → Type 0
-BeginsWithNone bytes = (entry : ℕ × List ℕ) (rest : List ℕ) → IsEntry entry → bytes ≡ frame entry.0 entry.1 ++ rest → ⊥
 
 -- no frame of the image is whole by chance: each of them stands at its place in what was written, too
 unfoldable pub NoChance : List ℕ → List ℕ → Type 0
