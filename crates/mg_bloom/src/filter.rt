@@ -76,6 +76,7 @@ impl Filter {
         &self.body
     }
 
+    /// Puts a key in. It takes no memory; nearly all of its time is the hash of the key.
     pub fn put(&mut self, key: &[u8])
         ensures exact { AddsWords self.old self.new (key_words key.now) }
         ensures held { IsTrue (may_hold self.new key.now) }
@@ -84,6 +85,7 @@ impl Filter {
         self.put_hashed(&HashedKey::new(key));
     }
 
+    /// `put` of a key that is hashed already.
     pub fn put_hashed(&mut self, key: &HashedKey)
         ensures exact { AddsWords self.old self.new key.now }
         ensures held { IsTrue (has_words self.new key.now) }

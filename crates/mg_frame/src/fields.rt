@@ -23,6 +23,7 @@ pub(crate) fn front_u64(bytes: &[u8]) -> u64
     u64::from_be_bytes(*bytes.first_chunk().unwrap())
 }
 
+/// The byte at `at`.
 pub fn get_u8(bytes: &[u8], at: usize) -> Option<u8>
     requires { at ≤ length bytes.now }
     ensures { result ≡ front_number 1 (drop at bytes.now) }
@@ -31,6 +32,7 @@ pub fn get_u8(bytes: &[u8], at: usize) -> Option<u8>
     Some(u8::from_be_bytes(*field))
 }
 
+/// The number in the two bytes at `at`, the highest first.
 pub fn get_u16(bytes: &[u8], at: usize) -> Option<u16>
     requires { at ≤ length bytes.now }
     ensures { result ≡ front_number 2 (drop at bytes.now) }
@@ -39,6 +41,7 @@ pub fn get_u16(bytes: &[u8], at: usize) -> Option<u16>
     Some(u16::from_be_bytes(*field))
 }
 
+/// The number in the four bytes at `at`, the highest first.
 pub fn get_u32(bytes: &[u8], at: usize) -> Option<u32>
     requires { at ≤ length bytes.now }
     ensures { result ≡ front_number 4 (drop at bytes.now) }
@@ -47,6 +50,7 @@ pub fn get_u32(bytes: &[u8], at: usize) -> Option<u32>
     Some(u32::from_be_bytes(*field))
 }
 
+/// The number in the eight bytes at `at`, the highest first.
 pub fn get_u64(bytes: &[u8], at: usize) -> Option<u64>
     requires { at ≤ length bytes.now }
     ensures { result ≡ front_number 8 (drop at bytes.now) }
@@ -61,7 +65,7 @@ fn front_bytes(bytes: &[u8], count: usize) -> Option<&[u8]>
     bytes.get(..count)
 }
 
-/// A byte list after its count of one byte.
+/// The byte list that stands after its count, which is the byte at `at`. It is not copied.
 pub fn get_short(bytes: &[u8], at: usize) -> Option<&[u8]>
     requires { at ≤ length bytes.now }
     ensures { option_copied result ≡ front_list 1 (drop at bytes.now) }
@@ -70,7 +74,7 @@ pub fn get_short(bytes: &[u8], at: usize) -> Option<&[u8]>
     front_bytes(&bytes[at + 1..], usize::from(count))
 }
 
-/// A byte list after its count of four bytes.
+/// The byte list that stands after its count, which is the number in the four bytes at `at`. It is not copied.
 pub fn get_long(bytes: &[u8], at: usize) -> Option<&[u8]>
     requires { at ≤ length bytes.now }
     ensures { option_copied result ≡ front_list 4 (drop at bytes.now) }
@@ -79,6 +83,7 @@ pub fn get_long(bytes: &[u8], at: usize) -> Option<&[u8]>
     front_bytes(&bytes[at + 4..], count as usize)
 }
 
+/// Appends the byte.
 #[tactic(auto, unfolding(crate::specs::BigEndian::big_endian))]
 pub fn put_u8(value: u8, out: &mut Vec<u8>) -> Result<(), AllocError>
     ensures ok { OnOk result (out.new.items ≡ out.old.items ++ big_endian 1 value) }
@@ -87,6 +92,7 @@ pub fn put_u8(value: u8, out: &mut Vec<u8>) -> Result<(), AllocError>
     out.extend_from_slice(&value.to_be_bytes())
 }
 
+/// Appends the number in two bytes, the highest first.
 #[tactic(auto, unfolding(crate::specs::BigEndian::big_endian))]
 pub fn put_u16(value: u16, out: &mut Vec<u8>) -> Result<(), AllocError>
     ensures ok { OnOk result (out.new.items ≡ out.old.items ++ big_endian 2 value) }
@@ -95,6 +101,7 @@ pub fn put_u16(value: u16, out: &mut Vec<u8>) -> Result<(), AllocError>
     out.extend_from_slice(&value.to_be_bytes())
 }
 
+/// Appends the number in four bytes, the highest first.
 #[tactic(auto, unfolding(crate::specs::BigEndian::big_endian))]
 pub fn put_u32(value: u32, out: &mut Vec<u8>) -> Result<(), AllocError>
     ensures ok { OnOk result (out.new.items ≡ out.old.items ++ big_endian 4 value) }
@@ -103,6 +110,7 @@ pub fn put_u32(value: u32, out: &mut Vec<u8>) -> Result<(), AllocError>
     out.extend_from_slice(&value.to_be_bytes())
 }
 
+/// Appends the number in eight bytes, the highest first.
 #[tactic(auto, unfolding(crate::specs::BigEndian::big_endian))]
 pub fn put_u64(value: u64, out: &mut Vec<u8>) -> Result<(), AllocError>
     ensures ok { OnOk result (out.new.items ≡ out.old.items ++ big_endian 8 value) }
