@@ -45,8 +45,8 @@ fn bits_for(keys: u64) -> u64
 }
 
 impl Filter {
-    /// A filter with no key in it, of ten bits a key or more. It denies about 99 of 100 other keys once that many keys
-    /// were put in, and fewer where the largest size is too small for them.
+    /// A filter with no key in it, of ten bits a key or more, up to the largest size of 2^31 bits. With so many keys put in
+    /// it is tested to deny at least 98 of 100 others.
     pub fn sized(alloc: Global, keys: u64) -> Result<Filter, AllocError>
         ensures size { IfOk result (λ f. IsBitCountFor keys (bit_count f)) }
         ensures empty { IfOk result (λ f. f ≡ replicate (length f) 0) }

@@ -11,9 +11,6 @@ use Rattle.mg_frame.specs.Frame.{digest, covered, frame, said_length, said_numbe
 use Rattle.mg_frame.proofs.FrameLaws.{length-frame, said_length-frame, said_number-frame, whole_spelled, none_if_short, none_if_torn, number_fits, length_fits, covered_parts, frame_covered}
 use Rattle.mg_frame.specs.Frames.{frames, NoChance, TornLogLaw, OneReadingLaw}
 
-Entry : Type 0
-Entry = ℕ × List ℕ
-
 -- ---- one reading
 
 same_bodies : (number : ℕ) (body other rest rest' : List ℕ) → length body ≡ length other → frame number body ++ rest ≡ frame number other ++ rest' → body ≡ other
