@@ -1,30 +1,65 @@
-// Runs each workload and prints its checksum and its time.
+//! Runs each workload once over little, and writes its checksum. With the arguments NAME COUNT SIZE it runs that one, and
+//! writes how long it took too.
 #![tactic(auto)]
 
 mod block;
+mod bloom;
+mod frame;
 
-use anyhow::Result;
+use anyhow::{Context, Result, bail};
+use std::alloc::{AllocError, Global};
+use std::env;
 use std::time::Instant;
 
+fn run(alloc: Global, name: &str, count: u64, size: usize) -> Result<u64> {
+    let checksum = match name {
+        "put_frames" => frame::put_frames(alloc, count, size)?,
+        "take_frames" => frame::take_frames(alloc, count, size)?,
+        "digest_only" => frame::digest_only(alloc, count, size)?,
+        "filter_put" => bloom::filter_put(alloc, count, size)?,
+        "filter_ask" => bloom::filter_ask(alloc, count, size)?,
+        "filter_ask_hashed" => bloom::filter_ask_hashed(alloc, count, size)?,
+        "build_blocks" => block::build_blocks(alloc, count, size)?,
+        "find_in_blocks" => block::find_in_blocks(alloc, count, size)?,
+        "list_blocks" => block::list_blocks(alloc, count, size)?,
+        "scan_blocks" => block::scan_blocks(alloc, count, size)?,
+        _ => bail!("no workload of that name"),
+    };
+    Ok(checksum)
+}
+
 fn main(rt: HostRuntime) -> Result<()> {
-    let alloc = rt.alloc();
-    for size in [12, 20, 100] {
-        let start = Instant::now(&rt)?;
-        let sum = block::build_blocks(alloc, 10_000, size)?;
-        let built = start.elapsed(&rt)?;
-        println!(rt; "build_blocks {size} 10000 {sum} {}", built.as_micros())?;
-        let start = Instant::now(&rt)?;
-        let sum = block::find_in_blocks(alloc, 100_000, size)?;
-        let found = start.elapsed(&rt)?;
-        println!(rt; "find_in_blocks {size} 100000 {sum} {}", found.as_micros())?;
-        let start = Instant::now(&rt)?;
-        let sum = block::list_blocks(alloc, 10_000, size)?;
-        let listed = start.elapsed(&rt)?;
-        println!(rt; "list_blocks {size} 10000 {sum} {}", listed.as_micros())?;
-        let start = Instant::now(&rt)?;
-        let sum = block::scan_blocks(alloc, 10_000, size)?;
-        let scanned = start.elapsed(&rt)?;
-        println!(rt; "scan_blocks {size} 10000 {sum} {}", scanned.as_micros())?;
-    }
+    let mut words = env::args(&rt)?.skip(1);
+    let Some(name) = words.next() else {
+        for name in [
+            "put_frames",
+            "take_frames",
+            "digest_only",
+            "filter_put",
+            "filter_ask",
+            "filter_ask_hashed",
+            "build_blocks",
+            "find_in_blocks",
+            "list_blocks",
+            "scan_blocks",
+        ] {
+            println!(rt; "{name} {}", run(rt.alloc(), name, 10, 20)?)?;
+        }
+        return Ok(());
+    };
+    let count = words
+        .next()
+        .context("no count")?
+        .parse::<u64>()
+        .context("the count")?;
+    let size = words
+        .next()
+        .context("no size")?
+        .parse::<usize>()
+        .context("the size")?;
+    let start = Instant::now(&rt)?;
+    let checksum = run(rt.alloc(), name.as_str(), count, size)?;
+    let taken = start.elapsed(&rt)?;
+    println!(rt; "{checksum} in {} ns", taken.as_nanos())?;
     Ok(())
 }

@@ -1,0 +1,3 @@
+pub mod BigEndianLaws
+pub mod FrameLaws
+pub mod FramesLaws

@@ -1,0 +1,3 @@
+pub mod BigEndian
+pub mod Frame
+pub mod Frames

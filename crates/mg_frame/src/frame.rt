@@ -1,0 +1,123 @@
+//! A frame is the body's length (4 bytes), the frame's number (8 bytes), the body, and the first 8 bytes of the SHA-256
+//! digest (FIPS 180-4) of all that. Numbers are big-endian.
+
+ghost use Rattle.std.specs.Prelude.{◌≡◌, ◌+◌, ◌++◌, ◌<◌, ◌≤◌, ◌^◌, length, OnOk, OnErr};
+ghost use Rattle.mg_frame.specs.Frame.{digest, frame, said_length, compared, judged, taken, Means, TakesWritten};
+
+use crate::fields::{front_u32, front_u64};
+use sha2::{Digest, Sha256};
+use std::alloc::AllocError;
+
+/// How many bytes a frame has more than its body.
+pub const FRAME_OVERHEAD: usize = 20;
+
+/// The bytes before the body.
+const HEADER: usize = 12;
+
+/// What stands at a place where a frame should begin. The tests are made in the order of `End`, `Short`, `Number`, `Torn`.
+#[derive(Clone, Copy, Debug, PartialEq, Eq)]
+pub enum Taken {
+    /// The frame's body is from `start` to `end`, and what follows the frame begins at `next`.
+    Whole {
+        start: usize,
+        end: usize,
+        next: usize,
+    },
+    /// No byte is left.
+    End,
+    /// `have` bytes are left, and the header or the whole frame needs `want`.
+    Short {
+        want: u64,
+        have: u64,
+    },
+    /// The frame's number is not the one that was asked for.
+    Number {
+        kept: u64,
+        asked: u64,
+    },
+    /// The digest that stands in the frame is not that of its bytes. Both are given as big-endian numbers.
+    Torn {
+        kept: u64,
+        found: u64,
+    },
+}
+
+fn digest(covered: &[u8]) -> [u8; 8]
+    ensures { result ≡ digest covered.now }
+{
+    let [a, b, c, d, e, f, g, h, ..] = Sha256::digest(covered);
+    [a, b, c, d, e, f, g, h]
+}
+
+/// Appends the frame of this number and body. The body is copied once.
+pub fn put_frame(number: u64, body: &[u8], out: &mut Vec<u8>) -> Result<(), AllocError>
+    requires { length body.now < 2 ^ 32 }
+    ensures ok { OnOk result (out.new.items ≡ out.old.items ++ frame number body.now) }
+    ensures err { OnErr result (out.new.items ≡ out.old.items) }
+{
+    out.reserve(FRAME_OVERHEAD + body.len())?;
+    let start = out.len();
+    out.extend_from_slice(&(body.len() as u32).to_be_bytes())?;
+    out.extend_from_slice(&number.to_be_bytes())?;
+    out.extend_from_slice(body)?;
+    let digest = digest(&out[start..]);
+    out.extend_from_slice(&digest)
+}
+
+/// Compares the digests of the frame that `left` begins with, whose body has `body` bytes.
+fn judge_digest(left: &[u8], at: usize, body: usize) -> Taken
+    requires in_range { at + length left.now < 2 ^ 63 }
+    requires body { body ≡ said_length left.now }
+    requires whole { body + FRAME_OVERHEAD ≤ length left.now }
+    ensures { result ≡ compared left.now at }
+{
+    let (covered, rest) = left.split_at(HEADER + body);
+    let kept = front_u64(rest);
+    let found = u64::from_be_bytes(digest(covered));
+    if kept != found {
+        return Taken::Torn { kept, found };
+    }
+    let start = at + HEADER;
+    Taken::Whole {
+        start,
+        end: start + body,
+        next: at + FRAME_OVERHEAD + body,
+    }
+}
+
+/// Judges the frame that `left` begins with, where `left` is what remains from the place `at` on.
+#[tactic(auto, unfolding(crate::specs::Frame::judged, crate::specs::Frame::said_length, crate::specs::Frame::said_number))]
+fn judge(left: &[u8], at: usize, number: u64) -> Taken
+    requires { at + length left.now < 2 ^ 63 }
+    ensures { result ≡ judged left.now at number }
+{
+    let have = left.len() as u64;
+    if left.is_empty() {
+        return Taken::End;
+    }
+    if left.len() < HEADER {
+        let want = HEADER as u64;
+        return Taken::Short { want, have };
+    }
+    let body = front_u32(left) as usize;
+    if left.len() < body + FRAME_OVERHEAD {
+        let want = (body + FRAME_OVERHEAD) as u64;
+        return Taken::Short { want, have };
+    }
+    let kept = front_u64(&left[4..]);
+    if kept != number {
+        let asked = number;
+        return Taken::Number { kept, asked };
+    }
+    judge_digest(left, at, body)
+}
+
+/// Reads the frame at `at`, and tells whether it is whole and has the number asked for. The body is not copied.
+pub fn take_frame(bytes: &[u8], at: usize, number: u64) -> Taken
+    requires { at ≤ length bytes.now }
+    ensures exact { result ≡ taken bytes.now at number }
+    ensures meaning { Means bytes.now at number result }
+    ensures written { TakesWritten bytes.now at number result }
+{
+    judge(&bytes[at..], at, number)
+}
