@@ -1,0 +1,6 @@
+pub mod Faults
+pub mod Files
+pub mod Hosts
+pub mod Images
+pub mod Moments
+pub mod Names
