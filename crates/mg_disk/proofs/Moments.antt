@@ -2,7 +2,7 @@
 use Rattle.std.proofs.Common.{◌≡◌, inl, inr, ⊎_elim, ℕ, List, ◌++◌, sym, ◌∙◌, ap, arith, append_assoc}
 use Rattle.std.specs.Prelude.{Some, Result, Ok, Err, OnOk, OnErr}
 use Rattle.mg_disk.specs.declared.names.Name.{Name}
-use Rattle.mg_disk.specs.Images.{Image, View, Elapses, Grows, Appended, PartAppended}
+use Rattle.mg_disk.specs.Images.{Image, View, Elapses, Grows, Appended, AppendFailed, Stays}
 use Rattle.mg_disk.specs.Moments.{LeavesOnly, EachImage, Begins}
 
 -- before the first call
@@ -34,7 +34,8 @@ appended_begins name bytes kept old new all done c left =
     let from = done.images c left in
     grows_begins name _ kept from.0 c (all from.0 from.1) from.2
 
--- after an append, whatever it answers, some bytes stand behind the log's
-pub some_appended : {T E : Type 0} (r : Result T E) (name : Name) (bytes : List ℕ) (old new : View) → OnOk r (Appended name bytes old new) → OnErr r (PartAppended name bytes old new) → (front : List ℕ) × Appended name front old new
-some_appended (Ok x) name bytes old new done part = (bytes, done)
-some_appended (Err e) name bytes old new done part = (part.front, part.appended)
+-- after an append, whatever it answers, time went on and each image begins with what each began with
+pub append_keeps : {T E : Type 0} (r : Result T E) (name : Name) (bytes kept : List ℕ) (old new : View) → OnOk r (Appended name bytes old new) → OnErr r (AppendFailed name bytes old new) → EachImage old (Begins name kept) → Elapses old new × EachImage new (Begins name kept)
+append_keeps (Ok x) name bytes kept old new done failed all = (done.time, appended_begins name bytes kept old new all done)
+append_keeps (Err e) name bytes kept old new done (inl stays) all = (stays.time, λ c left. all c (stays.images c left))
+append_keeps (Err e) name bytes kept old new done (inr part) all = (part.appended.time, appended_begins name part.front kept old new all part.appended)

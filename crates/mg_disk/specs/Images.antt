@@ -77,10 +77,16 @@ pub record PartAppended (name : Name) (bytes : List ℕ) (old new : View) : Type
   pub is_front : IsFront front bytes
   pub appended : Appended name front old new
 
--- Nothing changed, and each crash leaves the log as it is.
+-- an append that failed: nothing changed, or a front of the bytes stands behind the log's
+abbrev pub AppendFailed : Name → List ℕ → View → View → Type 0
+AppendFailed name bytes old new = Stays old new ⊎ PartAppended name bytes old new
+
+-- Nothing changed, and each crash leaves the log as it is, and the rest as it could leave it before.
 pub record Synced (name : Name) (old new : View) : Type 0 where
-  pub stays : Stays old new
-  pub whole : (c : Image) → new.may_leave c → c name ≡ new.contents name
+  pub time : Elapses old new
+  pub contents : new.contents ≡ old.contents
+  pub written : new.written ≡ old.written
+  pub images : (c : Image) → new.may_leave c → (d : Image) × old.may_leave d × Sets name (old.contents name) d c
 
 -- the bytes, or none
 abbrev pub bytes_of : Option (List ℕ) → List ℕ

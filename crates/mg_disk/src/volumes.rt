@@ -5,7 +5,7 @@ ghost use Rattle.std.specs.List.Sorted.{IsStrictlySortedBy};
 ghost use Rattle.mg_disk.specs.declared.names.Name.{Name};
 ghost use Rattle.mg_disk.specs.Faults.{HasCause};
 ghost use Rattle.mg_disk.specs.Files.{ReadsAt, found_bytes};
-ghost use Rattle.mg_disk.specs.Images.{Image, View, Stays, NameSet, NameInDoubt, Appended, PartAppended, Synced};
+ghost use Rattle.mg_disk.specs.Images.{Image, View, Stays, NameSet, NameInDoubt, Appended, AppendFailed, Synced};
 ghost use Rattle.mg_disk.specs.Names.{IsFileName, IsLogName, KeepsEach};
 
 use crate::{DiskError, Files, Name};
@@ -112,7 +112,7 @@ pub trait Volume: Drop {
     fn append(&mut self, alloc: Global, log: &mut Self::Log, bytes: &[u8]) -> Result<(), DiskError>
         requires { IsTrue (in_writing self.old log.old) }
         ensures appended { IsTrue tells → OnOk result (Appended (log_name log.old) bytes.now (view self.old) (view self.new)) }
-        ensures part { IsTrue tells → OnErr result (PartAppended (log_name log.old) bytes.now (view self.old) (view self.new)) }
+        ensures part { IsTrue tells → OnErr result (AppendFailed (log_name log.old) bytes.now (view self.old) (view self.new)) }
         ensures named { log_name log.new ≡ log_name log.old }
         ensures open { IsTrue (in_writing self.new log.new) }
         ensures writing { (other : Self.Log) → log_name other ≢ log_name log.old → in_writing self.new other ≡ in_writing self.old other }
