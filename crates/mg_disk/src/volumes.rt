@@ -1,6 +1,6 @@
 // Volumes: names of sealed files, and logs, with what a crash may leave of both.
 ghost use Rattle.std.specs.Prelude.{◌≡◌, ◌≢◌, ◌≤◌, ◌↔◌, Bool, true, ℕ, List, [], Option, None, Some, length, IfOk, OnOk, OnErr, IfSome, IsSome, IsTrue, MatchOption};
-ghost use Rattle.std.specs.List.{IsAmong};
+ghost use Rattle.std.specs.List.{Contains};
 ghost use Rattle.std.specs.List.Sorted.{IsStrictlySortedBy};
 ghost use Rattle.mg_disk.specs.declared.names.Name.{Name};
 ghost use Rattle.mg_disk.specs.Faults.{HasCause};
@@ -43,7 +43,7 @@ pub trait Volume: Drop {
     /// All names, each once, by kind and then by number.
     fn names(&mut self, alloc: Global) -> Result<Vec<Name>, DiskError>
         ensures order { IfOk result (λ names. IsStrictlySortedBy ⟦<Name as Ord>⟧.cmp names.items) }
-        ensures all { IsTrue tells → IfOk result (λ names. (name : Name) → IsAmong names.items name ↔ IsSome ((view self.old).contents name)) }
+        ensures all { IsTrue tells → IfOk result (λ names. (name : Name) → Contains names.items name ↔ IsSome ((view self.old).contents name)) }
         ensures stays { IsTrue tells → Stays (view self.old) (view self.new) }
         ensures writing { (log : Self.Log) → in_writing self.new log ≡ in_writing self.old log }
         ensures standing { (name : Name) → stands_for self.new name ≡ stands_for self.old name }

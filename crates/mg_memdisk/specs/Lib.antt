@@ -1,0 +1,4 @@
+pub mod Counted
+pub mod Events
+pub mod Files
+pub mod Volumes
