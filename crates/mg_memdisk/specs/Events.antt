@@ -1,9 +1,11 @@
 -- What a list of events means: the contents, what was written, which logs are in writing, and what a crash may leave.
 use Rattle.std.specs.Prelude.{◌≡◌, ◌≤◌, ◌+◌, ◌⊎◌, ◌==◌, ◌&&◌, ℕ, Bool, true, false, not, if◌then◌else◌, Option, None, Some, is_some, List, [], ◌∷◌, ◌++◌, length, take, drop, Vec, nat_le}
+use Rattle.std.specs.BTreeSet.{BTreeSet, contains}
 use Rattle.std.specs.List.{fold}
 use Rattle.std.specs.Arc.{arc_value}
 use Rattle.std.specs.declared.sync.Arc.{Arc}
 use Rattle.std.specs.declared.alloc.Global.{Global}
+use Rattle.std.specs.declared.cmp.Ordering.{Ordering}
 use Rattle.mg_disk.specs.declared.names.Name.{Name}
 use Rattle.mg_disk.specs.Files.{extended}
 use Rattle.mg_disk.specs.Images.{Image, View, Sets, Grows, bytes_of}
@@ -73,3 +75,7 @@ view_of found events = record {
   moment = length events;
   left_since = λ t c. (k : ℕ) × (t ≤ k) × (k ≤ length events) × leaves (is_image found) found (take k events) c;
 }
+
+-- the set has the names that stand for something in the image
+abbrev pub Lists : (Name → Name → Ordering) → BTreeSet Name → Image → Type 0
+Lists cmp names image = (name : Name) → contains cmp names name ≡ is_some (image name)

@@ -1,13 +1,16 @@
 // What the names stand for after a list of events.
 ghost use Rattle.std.specs.Prelude.{◌≡◌, ◌≤◌, ◌↔◌, true, false, List, ℕ, IfOk, IfSome, IsSome, OnOk};
 ghost use Rattle.std.specs.Option.{option_copied};
-ghost use Rattle.std.specs.List.{fold};
+ghost use Rattle.std.specs.List.{Contains, fold};
+ghost use Rattle.std.specs.List.Sorted.{IsStrictlySortedBy};
+ghost use Rattle.mg_disk.specs.declared.names.Name.{Name};
 ghost use Rattle.mg_disk.specs.Images.{Image};
-ghost use Rattle.mg_memdisk.specs.Events.{is_file, nothing, held, value_bytes};
+ghost use Rattle.mg_memdisk.specs.Events.{is_file, nothing, held, value_bytes, Lists};
 
 use crate::events::Event;
 use mg_disk::{DiskError, Name};
 use std::alloc::Global;
+use std::collections::BTreeSet;
 use std::sync::Arc;
 
 /// The bytes of the file under a name; None where there is none.
@@ -62,6 +65,42 @@ fn log_after(log: &mut Vec<u8>, event: &Event, name: Name) -> Result<(), DiskErr
             }
         }
         Event::Append(to, bytes) if *to == name => log.extend_from_slice(bytes)?,
+        _ => {}
+    }
+    Ok(())
+}
+
+/// All names that stand for something, in order.
+pub fn names_in(alloc: Global, events: &[Event]) -> Result<Vec<Name>, DiskError>
+    ensures order { IfOk result (λ names. IsStrictlySortedBy ⟦<Name as Ord>⟧.cmp names.items) }
+    ensures all { IfOk result (λ names. (name : Name) → Contains names.items name ↔ IsSome (fold held nothing events.now name)) }
+{
+    let mut names = BTreeSet::new(alloc);
+    for event in events {
+        names_after(&mut names, event)?;
+    }
+    in_order(alloc, names)
+}
+
+// The names of a set, in order.
+fn in_order(alloc: Global, names: BTreeSet<Name>) -> Result<Vec<Name>, DiskError>
+    ensures order { IfOk result (λ list. IsStrictlySortedBy ⟦<Name as Ord>⟧.cmp list.items) }
+    ensures items { IfOk result (λ list. list.items ≡ names.keys) }
+{
+    Ok(names.into_iter().collect(alloc)?)
+}
+
+// The names after one event more.
+fn names_after(names: &mut BTreeSet<Name>, event: &Event) -> Result<(), DiskError>
+    ensures { OnOk result ((image : Image) → Lists ⟦<Name as Ord>⟧.cmp names.old image → Lists ⟦<Name as Ord>⟧.cmp names.new (held image event.now)) }
+{
+    match event {
+        Event::Put(name, Some(_)) => {
+            names.insert(*name)?;
+        }
+        Event::Put(name, None) => {
+            names.remove(name);
+        }
         _ => {}
     }
     Ok(())
