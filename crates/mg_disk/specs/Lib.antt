@@ -1,4 +1,3 @@
-pub mod Faults
 pub mod Files
 pub mod Hosts
 pub mod Images

@@ -1,6 +1,8 @@
-// Small clients, proved over every volume and host: that what is said of them is enough to store bytes and read them again.
+//! Small clients, proved over every volume and host. They are public to show that what the traits say is enough to store
+//! bytes and read them again after a crash.
+
 ghost use Rattle.std.specs.Prelude.{◌≡◌, ◌++◌, List, ℕ, Some, IfOk, OnOk, IsSomeAnd, IsTrue, false};
-ghost use Rattle.mg_disk.specs.Faults.{HasCause};
+ghost use Rattle.mg_faults.specs.Causes.{HasCause};
 ghost use Rattle.mg_disk.specs.Files.{ReadsAt};
 ghost use Rattle.mg_disk.specs.Hosts.{IsVolume};
 ghost use Rattle.mg_disk.specs.Images.{View, Appended};
@@ -22,7 +24,7 @@ pub fn append_and_sync<V: Volume>(
         (λ image. image (V.log_name log.old) ≡ (V.view volume.new).contents (V.log_name log.old))) }
     ensures contents { IsTrue V.tells → OnOk result ((found : List ℕ) × ((V.view volume.old).contents (V.log_name log.old) ≡ Some found)
         × ((V.view volume.new).contents (V.log_name log.old) ≡ Some (found ++ bytes.now))) }
-    ensures cause { HasCause (V.faults volume.old) (V.faults volume.new) result }
+    ensures cause { HasCause DiskError.Failed (V.faults volume.old) (V.faults volume.new) result }
 {
     volume.append(alloc, log, bytes)?;
     volume.sync(alloc, log)
@@ -76,7 +78,7 @@ fn read_if_there<V: Volume>(
     requires { IsLogName name }
     ensures bytes { IsTrue V.tells → (log : List ℕ) → (V.view volume.old).contents name ≡ Some log
         → IfOk result (λ found. IsSomeAnd found (λ count. ReadsAt log 0 buf.old buf.new count)) }
-    ensures cause { HasCause (V.faults volume.old) (V.faults volume.new) result }
+    ensures cause { HasCause DiskError.Failed (V.faults volume.old) (V.faults volume.new) result }
 {
     let names = volume.names(alloc)?;
     if !names.contains(&name) {

@@ -1,4 +1,5 @@
-// Why a call of a device gave up.
+//! Why a call of a device gave up.
+
 ghost use Rattle.std.specs.Prelude.{◌≡◌};
 ghost use Rattle.mg_disk.specs.declared.errors.DiskError.TheVariants.{NoMemory};
 

@@ -1,6 +1,7 @@
-// The host: it lends volumes and ports, and keeps the settings.
+//! The host: it lends volumes and ports, and keeps the settings.
+
 ghost use Rattle.std.specs.Prelude.{◌≡◌, ◌≤◌, ◌⊎◌, ◌<◌, ◌-◌, ℕ, Bool, true, false, List, Option, None, Some, IfOk, OnOk, OnErr, IsTrue, option_map};
-ghost use Rattle.mg_disk.specs.Faults.{HasCause, raised};
+ghost use Rattle.mg_faults.specs.Causes.{HasCause, raised};
 ghost use Rattle.mg_disk.specs.Hosts.{HostState, IsVolume, Lent, GivenBack, OpensFound};
 
 use crate::{DiskError, Files, Volume};
@@ -22,7 +23,7 @@ pub trait Host {
     fn settings(&mut self, alloc: Global) -> Result<Option<Vec<u8>>, DiskError>
         ensures settings { IsTrue Self.Vol.tells → IfOk result (λ found. option_map (λ bytes. bytes.items) found ≡ (state self.old).settings) }
         ensures same { state self.new ≡ state self.old }
-        ensures cause { HasCause (faults self.old) (faults self.new) result };
+        ensures cause { HasCause DiskError.Failed (faults self.old) (faults self.new) result };
 
     /// Lends volume n, after all that was found in it was made lasting: its one image is what its reads give, and none of its
     /// logs is in writing.
@@ -33,7 +34,7 @@ pub trait Host {
         ensures opened { IsTrue Self.Vol.tells → IfOk result (λ vol. OpensFound n Self.Vol.view (state self.old) vol) }
         ensures writing { IfOk result (λ vol. (log : Self.Vol.Log) → Self.Vol.in_writing vol log ≡ false) }
         ensures same { OnErr result (state self.new ≡ state self.old) }
-        ensures cause { HasCause (faults self.old) (faults self.new) result };
+        ensures cause { HasCause DiskError.Failed (faults self.old) (faults self.new) result };
 
     /// Takes volume n back. What its count rose by while it was out is added to the host's.
     fn give_back(&mut self, n: u16, vol: Self::Vol)
@@ -44,7 +45,7 @@ pub trait Host {
     /// A port.
     fn files(&mut self, alloc: Global) -> Result<<Self::Vol as Volume>::Port, DiskError>
         ensures same { state self.new ≡ state self.old }
-        ensures cause { HasCause (faults self.old) (faults self.new) result };
+        ensures cause { HasCause DiskError.Failed (faults self.old) (faults self.new) result };
 
     /// Takes a port back. Its count is added to the host's.
     fn give_port(&mut self, port: <Self::Vol as Volume>::Port)

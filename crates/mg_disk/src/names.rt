@@ -1,4 +1,4 @@
-// Names in a volume.
+//! Names in a volume.
 
 /// A name in a volume: of a sealed file where the kind is 1 to 3, of a log where it is 4 or 5.
 /// Names are ordered by kind, then by number.

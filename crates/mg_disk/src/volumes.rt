@@ -1,9 +1,10 @@
-// Volumes: names of sealed files, and logs, with what a crash may leave of both.
+//! Volumes: names of sealed files, and logs, with what a crash may leave of both.
+
 ghost use Rattle.std.specs.Prelude.{◌≡◌, ◌≢◌, ◌≤◌, ◌↔◌, Bool, true, ℕ, List, [], Option, None, Some, length, IfOk, OnOk, OnErr, IfSome, IsSome, IsTrue, MatchOption};
 ghost use Rattle.std.specs.List.{Contains};
 ghost use Rattle.std.specs.List.Sorted.{IsStrictlySortedBy};
 ghost use Rattle.mg_disk.specs.declared.names.Name.{Name};
-ghost use Rattle.mg_disk.specs.Faults.{HasCause};
+ghost use Rattle.mg_faults.specs.Causes.{HasCause};
 ghost use Rattle.mg_disk.specs.Files.{ReadsAt, found_bytes};
 ghost use Rattle.mg_disk.specs.Images.{Image, View, Stays, NameSet, NameInDoubt, Appended, AppendFailed, Synced};
 ghost use Rattle.mg_disk.specs.Names.{IsFileName, IsLogName, KeepsEach};
@@ -47,7 +48,7 @@ pub trait Volume: Drop {
         ensures stays { IsTrue tells → Stays (view self.old) (view self.new) }
         ensures writing { (log : Self.Log) → in_writing self.new log ≡ in_writing self.old log }
         ensures standing { (name : Name) → stands_for self.new name ≡ stands_for self.old name }
-        ensures cause { HasCause (faults self.old) (faults self.new) result };
+        ensures cause { HasCause DiskError.Failed (faults self.old) (faults self.new) result };
 
     /// The file under a name; None where there is no such name.
     fn find_file(
@@ -61,7 +62,7 @@ pub trait Volume: Drop {
         ensures writing { (log : Self.Log) → in_writing self.new log ≡ in_writing self.old log }
         ensures given { IfOk result (λ found. IfSome found (λ file. stands_for self.new name ≡ Some (Self.Port.identity file))) }
         ensures standing { KeepsEach (stands_for self.old) (stands_for self.new) }
-        ensures cause { HasCause (faults self.old) (faults self.new) result };
+        ensures cause { HasCause DiskError.Failed (faults self.old) (faults self.new) result };
 
     /// Lets the name stand for the file, also after a crash. After an error it does not, but after a crash it may.
     fn adopt(
@@ -77,7 +78,7 @@ pub trait Volume: Drop {
         ensures writing { (log : Self.Log) → in_writing self.new log ≡ in_writing self.old log }
         ensures given { OnOk result (stands_for self.new name ≡ Some (Self.Port.identity file.now)) }
         ensures standing { (other : Name) → other ≢ name → stands_for self.new other ≡ stands_for self.old other }
-        ensures cause { HasCause (faults self.old) (faults self.new) result };
+        ensures cause { HasCause DiskError.Failed (faults self.old) (faults self.new) result };
 
     /// Takes the name away, also after a crash; an absent name is Ok. After an error it stands as before, but after a crash
     /// it may be gone.
@@ -87,7 +88,7 @@ pub trait Volume: Drop {
         ensures writing { (log : Self.Log) → log_name log ≢ name → in_writing self.new log ≡ in_writing self.old log }
         ensures standing { (other : Name) → other ≢ name → stands_for self.new other ≡ stands_for self.old other }
         ensures still { OnErr result (stands_for self.new name ≡ stands_for self.old name) }
-        ensures cause { HasCause (faults self.old) (faults self.new) result };
+        ensures cause { HasCause DiskError.Failed (faults self.old) (faults self.new) result };
 
     /// Whether the name is known to stand for a file of the same bytes. It is true for a file that this volume adopted
     /// under that name or gave for it, and for its shares, while the name stands.
@@ -105,7 +106,7 @@ pub trait Volume: Drop {
         ensures opens { IfOk result (λ log. IsTrue (in_writing self.new log)) }
         ensures writing { (log : Self.Log) → log_name log ≢ name → in_writing self.new log ≡ in_writing self.old log }
         ensures standing { (other : Name) → other ≢ name → stands_for self.new other ≡ stands_for self.old other }
-        ensures cause { HasCause (faults self.old) (faults self.new) result };
+        ensures cause { HasCause DiskError.Failed (faults self.old) (faults self.new) result };
 
     /// Puts bytes behind the log's. After an error a front of them was appended. Until a sync a crash may leave the log
     /// shorter, and any bytes behind what was synced.
@@ -117,7 +118,7 @@ pub trait Volume: Drop {
         ensures open { IsTrue (in_writing self.new log.new) }
         ensures writing { (other : Self.Log) → log_name other ≢ log_name log.old → in_writing self.new other ≡ in_writing self.old other }
         ensures standing { (name : Name) → stands_for self.new name ≡ stands_for self.old name }
-        ensures cause { HasCause (faults self.old) (faults self.new) result };
+        ensures cause { HasCause DiskError.Failed (faults self.old) (faults self.new) result };
 
     /// Makes the log lasting: from Ok on, a crash leaves at least what it has now.
     fn sync(&mut self, alloc: Global, log: &mut Self::Log) -> Result<(), DiskError>
@@ -128,7 +129,7 @@ pub trait Volume: Drop {
         ensures open { IsTrue (in_writing self.new log.new) }
         ensures writing { (other : Self.Log) → log_name other ≢ log_name log.old → in_writing self.new other ≡ in_writing self.old other }
         ensures standing { (name : Name) → stands_for self.new name ≡ stands_for self.old name }
-        ensures cause { HasCause (faults self.old) (faults self.new) result };
+        ensures cause { HasCause DiskError.Failed (faults self.old) (faults self.new) result };
 
     /// The length in bytes of the log under a name.
     fn log_len(&mut self, alloc: Global, name: Name) -> Result<u64, DiskError>
@@ -138,7 +139,7 @@ pub trait Volume: Drop {
         ensures stays { IsTrue tells → Stays (view self.old) (view self.new) }
         ensures writing { (log : Self.Log) → in_writing self.new log ≡ in_writing self.old log }
         ensures standing { (name : Name) → stands_for self.new name ≡ stands_for self.old name }
-        ensures cause { HasCause (faults self.old) (faults self.new) result };
+        ensures cause { HasCause DiskError.Failed (faults self.old) (faults self.new) result };
 
     /// Reads the log under a name from that place on, as `Files::read` does.
     fn read_log(
@@ -155,7 +156,7 @@ pub trait Volume: Drop {
         ensures stays { IsTrue tells → Stays (view self.old) (view self.new) }
         ensures writing { (log : Self.Log) → in_writing self.new log ≡ in_writing self.old log }
         ensures standing { (name : Name) → stands_for self.new name ≡ stands_for self.old name }
-        ensures cause { HasCause (faults self.old) (faults self.new) result };
+        ensures cause { HasCause DiskError.Failed (faults self.old) (faults self.new) result };
 
     /// This moment is one of those since an earlier one.
     ghost counts_now: { IsTrue tells → (volume : Self) (t : ℕ) (c : Image) → t ≤ (view volume).moment → (view volume).may_leave c → (view volume).left_since t c };

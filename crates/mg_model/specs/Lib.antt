@@ -1,0 +1,4 @@
+pub mod Bytes
+pub mod Mutations
+pub mod State
+pub mod History
