@@ -1,3 +1,4 @@
 pub mod Listed
 pub mod Pushed
 pub mod Same
+pub mod Views

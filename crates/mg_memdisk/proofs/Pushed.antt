@@ -60,7 +60,7 @@ stays_self found es = record {
   images = λ c left. left;
 }
 
-abbrev Bytes : Type 0
+abbrev pub Bytes : Type 0
 Bytes = Arc (Vec ℕ Global) Global
 
 pub put_sets : (image : Image) (name : Name) (value : Option Bytes) → Sets name (value_bytes value) image (held image (Put name value))

@@ -1,4 +1,5 @@
 pub mod Counted
 pub mod Events
 pub mod Files
+pub mod Laws
 pub mod Volumes

@@ -1,9 +1,11 @@
-// Calls that are counted, and fail by number.
+//! Calls that are counted, and fail by number.
+
 ghost use Rattle.std.specs.Prelude.{◌≡◌, ◌↔◌, IsErr, IsErrOf, IsTrue};
-ghost use Rattle.mg_disk.specs.Faults.{HasCause};
+ghost use Rattle.mg_faults.specs.Causes.{HasCause};
 ghost use Rattle.mg_memdisk.specs.Counted.{next_fails, CountedBy};
 
 use mg_disk::DiskError;
+use mg_faults::FaultCount;
 
 /// Calls that are counted from 1, and fail where their number is listed.
 #[derive(Drop)]
@@ -12,8 +14,8 @@ pub struct Counted {
     pub failing: Vec<u64>,
     /// How many calls there were; it stays at its last value.
     pub calls: u64,
-    /// How many of them failed; it stays at its last value.
-    pub faults: u64,
+    /// How many of them failed.
+    pub faults: FaultCount,
 }
 
 impl Counted {
@@ -28,7 +30,7 @@ impl Counted {
         Counted {
             failing,
             calls: 0,
-            faults: 0,
+            faults: FaultCount::new(),
         }
     }
 
@@ -37,12 +39,13 @@ impl Counted {
         ensures counted { CountedBy self.old self.new }
         ensures fails { IsErr result ↔ IsTrue (next_fails self.old) }
         ensures memory { IsErrOf result DiskError.NoMemory → ⊥ }
-        ensures cause { HasCause self.old.faults self.new.faults result }
+        ensures cause { HasCause DiskError.Failed self.old.faults self.new.faults result }
     {
         self.calls = self.calls.saturating_add(1);
         let number = self.calls;
         if self.failing.contains(&number) {
-            self.faults = self.faults.saturating_add(1);
+            let _before = self.faults.get();
+            self.faults.rise();
             return Err(DiskError::Failed);
         }
         Ok(())

@@ -1,4 +1,5 @@
-// What happened to a volume.
+//! What happened to a volume.
+
 use mg_disk::Name;
 use std::sync::Arc;
 

@@ -1,4 +1,5 @@
-// A port in memory.
+//! A port in memory.
+
 ghost use Rattle.std.specs.Prelude.{◌≡◌, Some};
 ghost use Rattle.mg_disk.specs.Files.{ReadsAt};
 

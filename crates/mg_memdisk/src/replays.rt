@@ -1,4 +1,5 @@
-// What the names stand for after a list of events.
+//! What the names stand for after a list of events.
+
 ghost use Rattle.std.specs.Prelude.{◌≡◌, ◌≤◌, ◌↔◌, true, false, List, ℕ, IfOk, IfSome, IsSome, OnOk};
 ghost use Rattle.std.specs.Option.{option_copied};
 ghost use Rattle.std.specs.List.{Contains, fold};
@@ -8,8 +9,8 @@ ghost use Rattle.mg_disk.specs.Images.{Image};
 ghost use Rattle.mg_memdisk.specs.Events.{is_file, nothing, held, value_bytes, Lists};
 
 use crate::events::Event;
-use mg_disk::{DiskError, Name};
-use std::alloc::Global;
+use mg_disk::Name;
+use std::alloc::{AllocError, Global};
 use std::collections::BTreeSet;
 use std::sync::Arc;
 
@@ -41,7 +42,7 @@ fn file_after<'a>(
 }
 
 /// The bytes of the log under a name, and no bytes where there is no log.
-pub fn log_under(alloc: Global, events: &[Event], name: Name) -> Result<Vec<u8>, DiskError>
+pub fn log_under(alloc: Global, events: &[Event], name: Name) -> Result<Vec<u8>, AllocError>
     requires { is_file name ≡ false }
     ensures { IfOk result (λ log. IfSome (fold held nothing events.now name) (λ bytes. log.items ≡ bytes)) }
 {
@@ -53,7 +54,7 @@ pub fn log_under(alloc: Global, events: &[Event], name: Name) -> Result<Vec<u8>,
 }
 
 // The log under a name after one event more.
-fn log_after(log: &mut Vec<u8>, event: &Event, name: Name) -> Result<(), DiskError>
+fn log_after(log: &mut Vec<u8>, event: &Event, name: Name) -> Result<(), AllocError>
     requires { is_file name ≡ false }
     ensures { OnOk result ((image : Image) → IfSome (image name) (λ bytes. log.old.items ≡ bytes) → IfSome (held image event.now name) (λ bytes. log.new.items ≡ bytes)) }
 {
@@ -71,7 +72,7 @@ fn log_after(log: &mut Vec<u8>, event: &Event, name: Name) -> Result<(), DiskErr
 }
 
 /// All names that stand for something, in order.
-pub fn names_in(alloc: Global, events: &[Event]) -> Result<Vec<Name>, DiskError>
+pub fn names_in(alloc: Global, events: &[Event]) -> Result<Vec<Name>, AllocError>
     ensures order { IfOk result (λ names. IsStrictlySortedBy ⟦<Name as Ord>⟧.cmp names.items) }
     ensures all { IfOk result (λ names. (name : Name) → Contains names.items name ↔ IsSome (fold held nothing events.now name)) }
 {
@@ -83,7 +84,7 @@ pub fn names_in(alloc: Global, events: &[Event]) -> Result<Vec<Name>, DiskError>
 }
 
 // The names of a set, in order.
-fn in_order(alloc: Global, names: BTreeSet<Name>) -> Result<Vec<Name>, DiskError>
+fn in_order(alloc: Global, names: BTreeSet<Name>) -> Result<Vec<Name>, AllocError>
     ensures order { IfOk result (λ list. IsStrictlySortedBy ⟦<Name as Ord>⟧.cmp list.items) }
     ensures items { IfOk result (λ list. list.items ≡ names.keys) }
 {
@@ -91,7 +92,7 @@ fn in_order(alloc: Global, names: BTreeSet<Name>) -> Result<Vec<Name>, DiskError
 }
 
 // The names after one event more.
-fn names_after(names: &mut BTreeSet<Name>, event: &Event) -> Result<(), DiskError>
+fn names_after(names: &mut BTreeSet<Name>, event: &Event) -> Result<(), AllocError>
     ensures { OnOk result ((image : Image) → Lists ⟦<Name as Ord>⟧.cmp names.old image → Lists ⟦<Name as Ord>⟧.cmp names.new (held image event.now)) }
 {
     match event {
