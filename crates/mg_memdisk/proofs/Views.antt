@@ -1,5 +1,6 @@
 -- What one event more means for a volume in memory.
-use Rattle.std.proofs.Common.{◌≡◌, ◌≢◌, ◌⊎◌, ◌&&◌, inl, inr, ℕ, Bool, true, false, not, List, [], ◌∷◌, ◌++◌, take, drop, refl, sym, ◌∙◌, ap, subst, cond, take-append-drop}
+use Rattle.std.proofs.Common.{◌≡◌, ◌≢◌, ◌⊎◌, ◌&&◌, inl, inr, ℕ, Bool, true, false, not, List, [], ◌∷◌, ◌++◌, take, drop, refl, sym, ◌∙◌, ap, subst, cond, length, arith, take-append-drop}
+use Rattle.std.proofs.lemmas.List.{take_all, drop_all}
 use Rattle.std.proofs.lemmas.List.Sums.{fold-append}
 use Rattle.std.specs.Prelude.{◌↔◌, Option, Some, None, is_some, IsSome, IfSome, Result, Ok, Err, OnOk, OnErr, IfOk, Vec}
 use Rattle.std.specs.List.{Contains, fold}
@@ -7,7 +8,7 @@ use Rattle.std.specs.declared.sync.Arc.{Arc}
 use Rattle.std.specs.declared.alloc.Global.{Global}
 use Rattle.mg_disk.specs.declared.names.Name.{Name}
 use Rattle.mg_disk.specs.Files.{extended}
-use Rattle.mg_disk.specs.Images.{Image, View, Stays, NameSet, NameInDoubt, Appended, PartAppended, AppendFailed, Synced}
+use Rattle.mg_disk.specs.Images.{Image, View, Stays, NameSet, NameInDoubt, Appended, Opened, Synced}
 use Rattle.mg_memdisk.specs.declared.events.Event.{Event}
 use Rattle.mg_memdisk.specs.declared.events.Event.TheVariants.{Put, MayPut, Append, Sync}
 use Rattle.mg_memdisk.specs.declared.volumes.MemVolume.{MemVolume}
@@ -130,3 +131,11 @@ on_names v l r same all = subst (λ (i : Image). IfOk r (λ names. (n : Name) �
 
 pub on_log : {E : Type 0} (v : MemVolume) (l : List Event) (name : Name) (r : Result (Vec ℕ Global) E) → l ≡ v.events.items → IfOk r (λ log. IfSome (fold held nothing l name) (λ bytes. log.items ≡ bytes)) → IfOk r (λ log. IfSome ((mem_view v).contents name) (λ bytes. log.items ≡ bytes))
 on_log v l name r same all = subst (λ (i : Image). IfOk r (λ log. IfSome (i name) (λ bytes. log.items ≡ bytes))) (all_from v l same) all
+
+-- all is settled: nothing happened since
+pub view_settled : (v : MemVolume) (k : ℕ) → k ≡ length v.events.items → Opened (mem_view v) (view_of (fold held nothing (take k v.events.items)) (drop k v.events.items))
+view_settled v k settled =
+    let none : drop k v.events.items ≡ [] = drop_all k v.events.items (omega (arith, settled)) in
+    let found : fold held nothing (take k v.events.items) ≡ (mem_view v).contents = ap (λ (l : List Event). fold held nothing l) (take_all k v.events.items (omega (arith, settled))) ∙ all_contents v in
+    let same : view_of (mem_view v).contents [] ≡ view_of (fold held nothing (take k v.events.items)) (drop k v.events.items) = λ i. view_of (sym found i) (sym none i) in
+    subst (Opened (mem_view v)) same record { contents = refl; written = λ name log. refl; images = λ c left. left }

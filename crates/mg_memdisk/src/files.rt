@@ -5,6 +5,7 @@ ghost use Rattle.mg_disk.specs.Files.{ReadsAt};
 
 use crate::counted::Counted;
 use mg_disk::{DiskError, Files};
+use mg_faults::FaultCount;
 use std::alloc::Global;
 use std::sync::Arc;
 
@@ -35,6 +36,13 @@ impl MemFiles {
         MemFiles {
             counted: Counted::new(failing),
         }
+    }
+
+    /// How many of its calls failed.
+    pub fn faults(&self) -> FaultCount
+        ensures { result ≡ self.now.counted.faults }
+    {
+        self.counted.faults
     }
 }
 

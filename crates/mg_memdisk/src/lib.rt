@@ -4,8 +4,10 @@
 mod counted;
 mod events;
 mod files;
+mod hosts;
 mod replays;
 mod volumes;
 
 pub use files::{MemDraft, MemFiles, MemSealed};
+pub use hosts::MemHost;
 pub use volumes::{MemLog, MemVolume};

@@ -9,6 +9,7 @@ use crate::events::Event;
 use crate::files::{MemFiles, MemSealed, read_at};
 use crate::replays::{file_under, log_under, names_in};
 use mg_disk::{DiskError, Name, Volume};
+use mg_faults::FaultCount;
 use std::alloc::{AllocError, Global};
 use std::sync::Arc;
 
@@ -38,7 +39,7 @@ impl MemVolume {
     ghost use Rattle.std.specs.List.{Contains};
     ghost use Rattle.std.specs.List.Sorted.{IsStrictlySortedBy};
     ghost use Rattle.mg_disk.specs.declared.names.Name.{Name};
-    ghost use Rattle.mg_disk.specs.Images.{NameSet, NameInDoubt, Appended, Stays};
+    ghost use Rattle.mg_disk.specs.Images.{NameSet, NameInDoubt, Appended, Opened, Stays};
     ghost use Rattle.mg_faults.specs.Causes.{HasCause};
     ghost use Rattle.mg_memdisk.specs.declared.events.Event.TheVariants.{Put, MayPut};
     ghost use Rattle.mg_memdisk.specs.Volumes.{mem_view, mem_found, mem_recent, mem_open, mem_stands, Pushes, Untouched};
@@ -54,6 +55,23 @@ impl MemVolume {
             settled: 0,
             counted: Counted::new(failing),
         }
+    }
+
+    /// How many of its calls failed.
+    pub fn faults(&self) -> FaultCount
+        ensures { result ≡ self.now.counted.faults }
+    {
+        self.counted.faults
+    }
+
+    // Makes what it holds lasting, and starts its clock anew.
+    pub(crate) fn settle(&mut self)
+        ensures opened { Opened (mem_view self.old) (mem_view self.new) }
+        ensures closed { (name : Name) → mem_open self.new name ≡ false }
+        ensures start { (mem_view self.new).moment ≡ 0 }
+        ensures counted { self.new.counted ≡ self.old.counted }
+    {
+        self.settled = self.events.len();
     }
 
     // Keeps one event more.
