@@ -116,3 +116,27 @@ pub opens_found : (settings : Option (List ℕ)) (slots : List Slot) (n at : ℕ
 opens_found settings slots n at d vol is lt there some opened =
     let found = option_found _ some in
     record { found = found.0; was = ap slot_inside (slot_there slots n at d is lt there) ∙ found.1; opened = opened found.0 found.1 }
+
+found_at : {X : Type 0} (xs : List X) (i : ℕ) (x : X) → slice_get xs i ≡ Some x → get_or xs i x ≡ x
+found_at [] i x e = refl
+found_at (y ∷ xs) zero x e = cc
+found_at (y ∷ xs) (suc i) x e = found_at xs i x e
+
+some_not_none : (o : Option MemVolume) → IsSome o → is_none o ≡ false
+some_not_none None some = absurd (cc)
+some_not_none (Some vol) some = refl
+
+place_below : (n : ℕ) → place_of n < 65
+place_below n = grind (arith, nat_tests)
+
+-- where each slot has its volume, none is out
+pub none_out : (slots : List Slot) → ((k : ℕ) (d : Slot) → k < 65 → IsSome (get_or slots k d).inside) → (n : ℕ) → slot_out (slot_of slots n) ≡ false
+none_out slots each n = by_volume (is_volume n)
+  where
+    by_slot : (o : Option Slot) → slice_get slots (place_of n) ≡ o → slot_out o ≡ false
+    by_slot None e = refl
+    by_slot (Some slot) e = some_not_none slot.inside (subst (λ (s : Slot). IsSome s.inside) (found_at slots (place_of n) slot e) (each (place_of n) slot (place_below n)))
+
+    by_volume : (t : Bool) → slot_out (cond t (slice_get slots (place_of n)) None) ≡ false
+    by_volume true = by_slot (slice_get slots (place_of n)) refl
+    by_volume false = refl

@@ -32,7 +32,9 @@ impl Slot {
     ghost use Rattle.mg_memdisk.specs.Volumes.{mem_view, mem_open};
 
     // An empty volume.
-    fn new(alloc: Global) -> Slot {
+    fn new(alloc: Global) -> Slot
+        ensures { IsSome result.inside }
+    {
         Slot {
             inside: Some(MemVolume::new(alloc, Vec::new(alloc))),
             lent_faults: FaultCount::new(),
@@ -78,15 +80,23 @@ fn place(n: u16) -> usize
 }
 
 impl MemHost {
-    ghost use Rattle.std.specs.Prelude.{◌≡◌, false, Some, IsErrOf};
+    ghost use Rattle.std.specs.Prelude.{◌≡◌, ℕ, false, Some, IsErrOf, IsSome, option_map};
     ghost use Rattle.mg_disk.specs.Hosts.{IsVolume};
     ghost use Rattle.mg_memdisk.specs.Hosts.{mem_state, Puts};
 
     /// A host with these settings and empty volumes, none of whose calls fail.
-    pub fn new(alloc: Global, settings: Option<Vec<u8>>) -> MemHost {
+    pub fn new(alloc: Global, settings: Option<Vec<u8>>) -> MemHost
+        ensures settings { (mem_state result).settings ≡ option_map (λ bytes. bytes.items) settings }
+        ensures inside { (n : ℕ) → (mem_state result).out n ≡ false }
+        ensures faults { result.faults ≡ 0 }
+    {
         MemHost {
             settings,
-            slots: array::from_fn(|_| Slot::new(alloc)),
+            slots: array::from_fn(
+                |_| -> Slot
+                    ensures { IsSome result.inside }
+                { Slot::new(alloc) },
+            ),
             ports: VecDeque::new(alloc),
             faults: FaultCount::new(),
         }

@@ -1,4 +1,5 @@
-//! Devices in memory: ports, volumes and a host that tell what they hold, whose calls fail by number, and whose volumes can crash.
+//! Devices in memory, which tell what they hold, and whose calls fail by number. `MemHost` is the host of the tests, and of a
+//! program whose store lasts one run.
 #![tactic(auto)]
 
 mod counted;
@@ -11,3 +12,6 @@ mod volumes;
 pub use files::{MemDraft, MemFiles, MemSealed};
 pub use hosts::MemHost;
 pub use volumes::{MemLog, MemVolume};
+
+#[cfg(test)]
+mod tests;
