@@ -1,5 +1,5 @@
 -- The keys of a set that lists an image's names.
-use Rattle.std.proofs.Common.{◌≡◌, ◌↔◌, List, Bool, true, false, refl, sym, ◌∙◌, ap, subst}
+use Rattle.std.proofs.Common.{◌≡◌, ◌↔◌, List, Bool, sym, subst}
 use Rattle.std.proofs.lemmas.Map.Views.{btree_set_contains_iff}
 use Rattle.std.specs.BTreeSet.{BTreeSet, contains}
 use Rattle.std.specs.List.{Contains}

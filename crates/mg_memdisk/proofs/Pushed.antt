@@ -1,5 +1,5 @@
 -- What one event more means.
-use Rattle.std.proofs.Common.{◌≡◌, ◌≢◌, ◌⊎◌, ◌≤◌, ◌<◌, ◌+◌, inl, inr, ⊎_elim, ℕ, zero, suc, Bool, true, false, not, ◌&&◌, List, [], ◌∷◌, ◌++◌, length, take, drop, Vec, refl, sym, ◌∙◌, ap, subst, arith, rules, cond, length-append}
+use Rattle.std.proofs.Common.{◌≡◌, ◌⊎◌, ◌≤◌, ◌<◌, ◌+◌, inl, inr, ⊎_elim, ℕ, zero, suc, Bool, true, false, not, ◌&&◌, List, [], ◌∷◌, ◌++◌, length, take, Vec, refl, sym, ◌∙◌, ap, subst, arith, cond, length-append}
 use Rattle.std.specs.Prelude.{Option, Some, None, is_some}
 use Rattle.std.specs.Arc.{arc_value}
 use Rattle.std.specs.List.{fold}
@@ -10,10 +10,10 @@ use Rattle.std.proofs.lemmas.List.{take_all}
 use Rattle.std.proofs.lemmas.Bool.{cases_lt}
 use Rattle.mg_disk.specs.declared.names.Name.{Name}
 use Rattle.mg_disk.specs.Files.{extended}
-use Rattle.mg_disk.specs.Images.{Image, View, Elapses, Sets, Grows, Stays, NameSet, NameInDoubt, Appended, Synced, bytes_of}
+use Rattle.mg_disk.specs.Images.{Image, Elapses, Sets, Grows, Stays, NameSet, NameInDoubt, Appended, Synced, bytes_of}
 use Rattle.mg_memdisk.specs.declared.events.Event.{Event}
 use Rattle.mg_memdisk.specs.declared.events.Event.TheVariants.{Put, MayPut, Append, Sync}
-use Rattle.mg_memdisk.specs.Events.{same_name, is_file, nothing, value_bytes, held, writes, opens, may_after, leaves, is_image, view_of}
+use Rattle.mg_memdisk.specs.Events.{same_name, is_file, value_bytes, held, writes, opens, may_after, leaves, is_image, view_of}
 use Rattle.mg_memdisk.proofs.Same.{same_is, same_self, other_name}
 
 pub leaves_push : (before : Image → Type 0) (contents : Image) (es : List Event) (e : Event) → leaves before contents (es ++ e ∷ []) ≡ may_after (leaves before contents es) (fold held contents es) e

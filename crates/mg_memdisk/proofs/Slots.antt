@@ -1,9 +1,9 @@
 -- A change of one slot changes what is said of one volume.
-use Rattle.std.proofs.Common.{◌≡◌, ◌≢◌, ◌<◌, inl, inr, ◌||◌, ◌==◌, ℕ, zero, suc, Bool, true, false, List, [], ◌∷◌, length, get_or, set, refl, sym, ◌∙◌, ap, subst, arith, cond}
+use Rattle.std.proofs.Common.{◌≡◌, ◌≢◌, ◌<◌, inl, inr, ℕ, zero, suc, Bool, true, false, List, [], ◌∷◌, length, get_or, set, refl, sym, ◌∙◌, ap, subst, arith, cond}
 use Rattle.std.proofs.lemmas.Bool.Decides.{nat_tests}
-use Rattle.std.specs.Prelude.{Option, Some, None, is_none, IsSome, nat_lt}
+use Rattle.std.specs.Prelude.{Option, Some, None, is_none, IsSome}
 use Rattle.std.specs.List.{slice_get}
-use Rattle.mg_disk.specs.Hosts.{HostState, SameButFor, GivenBack, Lent, OpensFound, IsVolume}
+use Rattle.mg_disk.specs.Hosts.{SameButFor, GivenBack, Lent, OpensFound, IsVolume}
 use Rattle.mg_disk.specs.Images.{Opened}
 use Rattle.mg_memdisk.specs.declared.hosts.Slot.{Slot}
 use Rattle.mg_memdisk.specs.declared.volumes.MemVolume.{MemVolume}

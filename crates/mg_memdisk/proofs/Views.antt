@@ -4,7 +4,6 @@ use Rattle.std.proofs.lemmas.List.{take_all, drop_all}
 use Rattle.std.proofs.lemmas.List.Sums.{fold-append}
 use Rattle.std.specs.Prelude.{◌↔◌, Option, Some, None, is_some, IsSome, IfSome, Result, Ok, Err, OnOk, OnErr, IfOk, Vec}
 use Rattle.std.specs.List.{Contains, fold}
-use Rattle.std.specs.declared.sync.Arc.{Arc}
 use Rattle.std.specs.declared.alloc.Global.{Global}
 use Rattle.mg_disk.specs.declared.names.Name.{Name}
 use Rattle.mg_disk.specs.Files.{extended}
@@ -15,7 +14,7 @@ use Rattle.mg_memdisk.specs.declared.volumes.MemVolume.{MemVolume}
 use Rattle.mg_memdisk.specs.Events.{same_name, is_file, nothing, value_bytes, held, opens, view_of}
 use Rattle.mg_memdisk.specs.Volumes.{mem_found, mem_recent, mem_view, mem_open, mem_stands, Pushes, Untouched}
 use Rattle.mg_memdisk.proofs.Same.{same_is, same_self, other_name}
-use Rattle.mg_memdisk.proofs.Pushed.{stays_self, pushed_put, pushed_may, pushed_append, pushed_sync, contents_push, put_sets, open_log, none_open, Bytes}
+use Rattle.mg_memdisk.proofs.Pushed.{stays_self, pushed_put, pushed_may, pushed_append, pushed_sync, contents_push, open_log, none_open, Bytes}
 
 -- all events at once give the contents
 pub all_contents : (v : MemVolume) → fold held nothing v.events.items ≡ (mem_view v).contents

@@ -1,5 +1,5 @@
 -- What holds of every view of a volume in memory.
-use Rattle.std.proofs.Common.{◌≡◌, ◌≤◌, ℕ, List, length, take, drop, subst, sym, arith}
+use Rattle.std.proofs.Common.{◌≤◌, ℕ, List, length, subst, sym, arith}
 use Rattle.std.proofs.lemmas.List.{take_all}
 use Rattle.mg_disk.specs.Images.{Image}
 use Rattle.mg_memdisk.specs.declared.events.Event.{Event}

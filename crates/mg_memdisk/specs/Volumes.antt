@@ -1,5 +1,5 @@
 -- What a volume in memory holds.
-use Rattle.std.specs.Prelude.{◌≡◌, ◌⊎◌, ℕ, Bool, false, if◌then◌else◌, Option, None, List, [], ◌∷◌, ◌++◌, take, drop}
+use Rattle.std.specs.Prelude.{◌≡◌, ℕ, Bool, false, if◌then◌else◌, Option, None, List, [], ◌∷◌, ◌++◌, take, drop}
 use Rattle.std.specs.List.{fold}
 use Rattle.mg_disk.specs.declared.names.Name.{Name}
 use Rattle.mg_disk.specs.Images.{Image, View}

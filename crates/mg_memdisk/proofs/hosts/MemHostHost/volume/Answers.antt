@@ -1,4 +1,4 @@
-use Rattle.std.proofs.Common.{◌<◌, length, refl, rules, ap, ◌∙◌, sym}
+use Rattle.std.proofs.Common.{◌<◌, length, rules}
 use Rattle.mg_memdisk.proofs.Slots.{exists, lends, opens_found, is_inside}
 use Rattle.mg_memdisk.proofs.hosts.MemHostHost.volume.Goals as goal
 
