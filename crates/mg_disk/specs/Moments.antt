@@ -1,0 +1,19 @@
+-- What a crash leaves at each moment of a run of calls.
+use Rattle.std.specs.Prelude.{◌≡◌, ◌≤◌, ◌⊎◌, ℕ, Some, List, ◌++◌}
+use Rattle.mg_disk.specs.declared.names.Name.{Name}
+use Rattle.mg_disk.specs.Images.{Image, View}
+
+-- A crash at any moment since old leaves an image that has P.
+pub record LeavesOnly (old new : View) (P : Image → Type 0) : Type 0 where
+  pub later : old.moment ≤ new.moment
+  pub each : (c : Image) → new.left_since old.moment c → P c
+  -- for a run that began earlier
+  pub before : (t : ℕ) (c : Image) → t ≤ old.moment → new.left_since t c → old.left_since t c ⊎ P c
+
+-- each image that a crash now may leave has P
+abbrev pub EachImage : View → (Image → Type 0) → Type 0
+EachImage view P = (c : Image) → view.may_leave c → P c
+
+-- the log is there in the image, and begins with these bytes
+abbrev pub Begins : Name → List ℕ → Image → Type 0
+Begins name bytes image = (behind : List ℕ) × (image name ≡ Some (bytes ++ behind))

@@ -1,0 +1,88 @@
+//! Small clients, proved over every volume and host. They are public to show that what the traits say is enough to store
+//! bytes and read them again after a crash.
+
+ghost use Rattle.std.specs.Prelude.{◌≡◌, ◌++◌, List, ℕ, Some, IfOk, OnOk, IsSomeAnd, IsTrue, false};
+ghost use Rattle.mg_faults.specs.Causes.{HasCause};
+ghost use Rattle.mg_disk.specs.Files.{ReadsAt};
+ghost use Rattle.mg_disk.specs.Hosts.{IsVolume};
+ghost use Rattle.mg_disk.specs.Images.{View, Appended};
+ghost use Rattle.mg_disk.specs.Moments.{LeavesOnly, EachImage, Begins};
+ghost use Rattle.mg_disk.specs.Names.{IsLogName};
+
+use crate::{DiskError, Host, Name, Volume};
+use std::alloc::Global;
+
+/// Appends to a log and syncs it. From Ok on each crash leaves a log that has the bytes.
+pub fn append_and_sync<V: Volume>(
+    alloc: Global,
+    volume: &mut V,
+    log: &mut V::Log,
+    bytes: &[u8],
+) -> Result<(), DiskError>
+    requires { IsTrue (V.in_writing volume.old log.old) }
+    ensures lasting { IsTrue V.tells → OnOk result (EachImage (V.view volume.new)
+        (λ image. image (V.log_name log.old) ≡ (V.view volume.new).contents (V.log_name log.old))) }
+    ensures contents { IsTrue V.tells → OnOk result ((found : List ℕ) × ((V.view volume.old).contents (V.log_name log.old) ≡ Some found)
+        × ((V.view volume.new).contents (V.log_name log.old) ≡ Some (found ++ bytes.now))) }
+    ensures cause { HasCause DiskError.Failed (V.faults volume.old) (V.faults volume.new) result }
+{
+    volume.append(alloc, log, bytes)?;
+    volume.sync(alloc, log)
+}
+
+/// Appends to a log. A crash at any moment of the call leaves a log that begins with what each crash left of it before.
+pub fn append_behind<V: Volume>(
+    alloc: Global,
+    volume: &mut V,
+    log: &mut V::Log,
+    bytes: &[u8],
+) -> Result<(), DiskError>
+    requires { IsTrue (V.in_writing volume.old log.old) }
+    ensures still { IsTrue V.tells → (kept : List ℕ) → EachImage (V.view volume.old) (Begins (V.log_name log.old) kept)
+        → EachImage (V.view volume.new) (Begins (V.log_name log.old) kept) }
+    ensures any_moment { IsTrue V.tells → (kept : List ℕ) → EachImage (V.view volume.old) (Begins (V.log_name log.old) kept)
+        → LeavesOnly (V.view volume.old) (V.view volume.new) (Begins (V.log_name log.old) kept) }
+{
+    volume.append(alloc, log, bytes)
+}
+
+/// Borrows volume n and reads one of its logs from the start: after a crash, the log of the one image that the crash left.
+/// None where there is no such name.
+pub fn read_found<H: Host>(
+    alloc: Global,
+    host: &mut H,
+    n: u16,
+    name: Name,
+    buf: &mut [u8],
+) -> Result<Option<usize>, DiskError>
+    requires exists { IsVolume n }
+    requires here { (H.state host.old).out n ≡ false }
+    requires kind { IsLogName name }
+    ensures bytes { IsTrue H.Vol.tells → (vol : H.Vol) (log : List ℕ) → (H.state host.old).inside n ≡ Some vol → (H.Vol.view vol).contents name ≡ Some log
+        → IfOk result (λ found. IsSomeAnd found (λ count. ReadsAt log 0 buf.old buf.new count)) }
+    ensures back { OnOk result ((H.state host.new).out n ≡ false) }
+{
+    let mut volume = host.volume(alloc, n)?;
+    let taken = read_if_there(alloc, &mut volume, name, buf);
+    host.give_back(n, volume);
+    taken
+}
+
+// Reads a log from the start, if there is one of that name.
+fn read_if_there<V: Volume>(
+    alloc: Global,
+    volume: &mut V,
+    name: Name,
+    buf: &mut [u8],
+) -> Result<Option<usize>, DiskError>
+    requires { IsLogName name }
+    ensures bytes { IsTrue V.tells → (log : List ℕ) → (V.view volume.old).contents name ≡ Some log
+        → IfOk result (λ found. IsSomeAnd found (λ count. ReadsAt log 0 buf.old buf.new count)) }
+    ensures cause { HasCause DiskError.Failed (V.faults volume.old) (V.faults volume.new) result }
+{
+    let names = volume.names(alloc)?;
+    if !names.contains(&name) {
+        return Ok(None);
+    }
+    Ok(Some(volume.read_log(alloc, name, 0, buf)?))
+}

@@ -1,0 +1,19 @@
+//! The devices that the engine stands on, as traits with a written meaning: ports that write and read sealed files,
+//! volumes that keep names and logs, and the host that lends both.
+//!
+//! What a crash may leave, and what is assumed of a real device, is told in `docs/disk-model.md`.
+#![tactic(auto)]
+
+mod clients;
+mod errors;
+mod hosts;
+mod names;
+mod ports;
+mod volumes;
+
+pub use clients::{append_and_sync, append_behind, read_found};
+pub use errors::DiskError;
+pub use hosts::Host;
+pub use names::Name;
+pub use ports::Files;
+pub use volumes::Volume;

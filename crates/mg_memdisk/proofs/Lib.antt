@@ -1,0 +1,5 @@
+pub mod Listed
+pub mod Pushed
+pub mod Same
+pub mod Slots
+pub mod Views

@@ -1,0 +1,11 @@
+-- The bytes of drafts and files in memory.
+use Rattle.std.specs.Prelude.{ℕ, List}
+use Rattle.std.specs.Arc.{arc_value}
+use Rattle.mg_memdisk.specs.declared.files.MemDraft.{MemDraft}
+use Rattle.mg_memdisk.specs.declared.files.MemSealed.{MemSealed}
+
+abbrev pub draft_bytes : MemDraft → List ℕ
+draft_bytes draft = draft.bytes.items
+
+abbrev pub sealed_bytes : MemSealed → List ℕ
+sealed_bytes file = (arc_value file.bytes).items

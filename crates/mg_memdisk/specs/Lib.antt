@@ -1,0 +1,7 @@
+pub mod Counted
+pub mod Events
+pub mod Files
+pub mod Hosts
+pub mod Laws
+pub mod Places
+pub mod Volumes

@@ -1,0 +1,174 @@
+//! A host in memory.
+
+ghost use Rattle.std.specs.Prelude.{◌≡◌, ◌<◌};
+ghost use Rattle.mg_memdisk.specs.Places.{place_of};
+
+use crate::files::MemFiles;
+use crate::volumes::MemVolume;
+use mg_disk::{DiskError, Host, Volume};
+use mg_faults::FaultCount;
+use std::alloc::Global;
+use std::array;
+use std::collections::VecDeque;
+
+/// How many volumes there are: one for each of 64 partitions, and the shared log's.
+const VOLUMES: usize = 65;
+
+/// How many partitions have a volume.
+const PARTITIONS: u16 = 64;
+
+/// A place for a volume: the volume while it is in, and its count of faults when it was last lent.
+#[derive(Drop)]
+pub struct Slot {
+    inside: Option<MemVolume>,
+    lent_faults: FaultCount,
+}
+
+impl Slot {
+    ghost use Rattle.std.specs.Prelude.{◌≡◌, false, Some, None, IsSome};
+    ghost use Rattle.mg_disk.specs.declared.names.Name.{Name};
+    ghost use Rattle.mg_disk.specs.Images.{Opened};
+    ghost use Rattle.mg_memdisk.specs.declared.volumes.MemVolume.{MemVolume};
+    ghost use Rattle.mg_memdisk.specs.Volumes.{mem_view, mem_open};
+
+    // An empty volume.
+    fn new(alloc: Global) -> Slot
+        ensures { IsSome result.inside }
+    {
+        Slot {
+            inside: Some(MemVolume::new(alloc, Vec::new(alloc))),
+            lent_faults: FaultCount::new(),
+        }
+    }
+
+    // Lends the volume, after what it holds was made lasting.
+    fn lend(&mut self) -> MemVolume
+        requires { IsSome self.old.inside }
+        ensures opened { (found : MemVolume) → self.old.inside ≡ Some found → Opened (mem_view found) (mem_view result) }
+        ensures closed { (name : Name) → mem_open result name ≡ false }
+        ensures start { (mem_view result).moment ≡ 0 }
+        ensures out { self.new.inside ≡ None }
+        ensures count { self.new.lent_faults ≡ result.counted.faults }
+    {
+        let mut volume = self.inside.take().unwrap();
+        volume.settle();
+        self.lent_faults = volume.faults();
+        volume
+    }
+}
+
+/// A host in memory: 64 volumes for partitions and one for the shared log.
+#[derive(Drop)]
+pub struct MemHost {
+    settings: Option<Vec<u8>>,
+    slots: [Slot; VOLUMES],
+    // for each port that is still to be made, the numbers of its failing calls
+    ports: VecDeque<Vec<u64>>,
+    faults: FaultCount,
+}
+
+// The place of volume n.
+fn place(n: u16) -> usize
+    ensures place { result ≡ place_of n }
+    ensures bound { result < 65 }
+{
+    if n < PARTITIONS {
+        n as usize
+    } else {
+        PARTITIONS as usize
+    }
+}
+
+impl MemHost {
+    ghost use Rattle.std.specs.Prelude.{◌≡◌, ℕ, false, Some, IsErrOf, IsSome, option_map};
+    ghost use Rattle.mg_disk.specs.Hosts.{IsVolume};
+    ghost use Rattle.mg_memdisk.specs.Hosts.{mem_state, Puts};
+
+    /// A host with these settings and empty volumes, none of whose calls fail.
+    pub fn new(alloc: Global, settings: Option<Vec<u8>>) -> MemHost
+        ensures settings { (mem_state result).settings ≡ option_map (λ bytes. bytes.items) settings }
+        ensures inside { (n : ℕ) → (mem_state result).out n ≡ false }
+        ensures faults { result.faults ≡ 0 }
+    {
+        MemHost {
+            settings,
+            slots: array::from_fn(
+                |_| -> Slot
+                    ensures { IsSome result.inside }
+                { Slot::new(alloc) },
+            ),
+            ports: VecDeque::new(alloc),
+            faults: FaultCount::new(),
+        }
+    }
+
+    /// Puts a volume in the place of volume n.
+    pub fn put(&mut self, n: u16, vol: MemVolume) -> Result<(), DiskError>
+        requires exists { IsVolume n }
+        requires here { (mem_state self.old).out n ≡ false }
+        ensures { Puts n vol (mem_state self.old) (mem_state self.new) }
+    {
+        let at = place(n);
+        self.slots[at].inside = Some(vol);
+        Ok(())
+    }
+
+    /// Gives the numbers of the calls, from 1, that fail in the next port for which this was not said yet.
+    pub fn next_port(&mut self, failing: Vec<u64>) -> Result<(), DiskError>
+        ensures same { mem_state self.new ≡ mem_state self.old }
+        ensures memory { IsErrOf result DiskError.Failed → ⊥ }
+    {
+        self.ports.push_back(failing)?;
+        Ok(())
+    }
+
+    /// Volume n as it was put or given back, with nothing made lasting.
+    pub fn left(&self, n: u16) -> &MemVolume
+        requires exists { IsVolume n }
+        requires here { (mem_state self.now).out n ≡ false }
+        ensures { (mem_state self.now).inside n ≡ Some result.now }
+    {
+        self.slots[place(n)].inside.as_ref().unwrap()
+    }
+}
+
+impl Host for MemHost {
+    ghost use Rattle.mg_memdisk.specs.Hosts.{mem_state};
+
+    type Vol = MemVolume;
+
+    ghost state = { mem_state };
+
+    ghost faults = { λ host. host.faults };
+
+    fn settings(&mut self, alloc: Global) -> Result<Option<Vec<u8>>, DiskError> {
+        match &self.settings {
+            Some(bytes) => Ok(Some(bytes.to_vec(alloc)?)),
+            None => Ok(None),
+        }
+    }
+
+    fn volume(&mut self, _: Global, n: u16) -> Result<MemVolume, DiskError> {
+        let at = place(n);
+        Ok(self.slots[at].lend())
+    }
+
+    fn give_back(&mut self, n: u16, vol: MemVolume) {
+        let at = place(n);
+        let before = self.slots[at].lent_faults;
+        self.faults.rise_by(before, vol.faults());
+        self.slots[at].inside = Some(vol);
+    }
+
+    fn files(&mut self, alloc: Global) -> Result<MemFiles, DiskError> {
+        let failing = match self.ports.pop_front() {
+            Some(failing) => failing,
+            None => Vec::new(alloc),
+        };
+        Ok(MemFiles::new(failing))
+    }
+
+    fn give_port(&mut self, port: MemFiles) {
+        self.faults.rise_by(FaultCount::new(), port.faults());
+    }
+}

@@ -1,0 +1,14 @@
+//! Devices in memory, which tell what they hold, and whose calls fail by number. `MemHost` is the host of the tests, and of a
+//! program whose store lasts one run.
+#![tactic(auto)]
+
+mod counted;
+mod events;
+mod files;
+mod hosts;
+mod replays;
+mod volumes;
+
+pub use files::{MemDraft, MemFiles, MemSealed};
+pub use hosts::MemHost;
+pub use volumes::{MemLog, MemVolume};

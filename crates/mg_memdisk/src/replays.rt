@@ -1,0 +1,108 @@
+//! What the names stand for after a list of events.
+
+ghost use Rattle.std.specs.Prelude.{◌≡◌, ◌≤◌, ◌↔◌, true, false, List, ℕ, IfOk, IfSome, IsSome, OnOk};
+ghost use Rattle.std.specs.Option.{option_copied};
+ghost use Rattle.std.specs.List.{Contains, fold};
+ghost use Rattle.std.specs.List.Sorted.{IsStrictlySortedBy};
+ghost use Rattle.mg_disk.specs.declared.names.Name.{Name};
+ghost use Rattle.mg_disk.specs.Images.{Image};
+ghost use Rattle.mg_memdisk.specs.Events.{is_file, nothing, held, value_bytes, Lists};
+
+use crate::events::Event;
+use mg_disk::Name;
+use std::alloc::{AllocError, Global};
+use std::collections::BTreeSet;
+use std::sync::Arc;
+
+/// The bytes of the file under a name; None where there is none.
+pub fn file_under(events: &[Event], name: Name) -> Option<&Arc<Vec<u8>>>
+    requires { is_file name ≡ true }
+    ensures { value_bytes (option_copied result) ≡ fold held nothing events.now name }
+{
+    let mut found = None;
+    for event in events {
+        found = file_after(found, event, name);
+    }
+    found
+}
+
+// The file under a name after one event more.
+fn file_after<'a>(
+    found: Option<&'a Arc<Vec<u8>>>,
+    event: &'a Event,
+    name: Name,
+) -> Option<&'a Arc<Vec<u8>>>
+    requires { is_file name ≡ true }
+    ensures { (image : Image) → value_bytes (option_copied found.entry) ≡ image name → value_bytes (option_copied result) ≡ held image event.now name }
+{
+    match event {
+        Event::Put(put, value) if *put == name => value.as_ref(),
+        _ => found,
+    }
+}
+
+/// The bytes of the log under a name, and no bytes where there is no log.
+pub fn log_under(alloc: Global, events: &[Event], name: Name) -> Result<Vec<u8>, AllocError>
+    requires { is_file name ≡ false }
+    ensures { IfOk result (λ log. IfSome (fold held nothing events.now name) (λ bytes. log.items ≡ bytes)) }
+{
+    let mut log = Vec::new(alloc);
+    for event in events {
+        log_after(&mut log, event, name)?;
+    }
+    Ok(log)
+}
+
+// The log under a name after one event more.
+fn log_after(log: &mut Vec<u8>, event: &Event, name: Name) -> Result<(), AllocError>
+    requires { is_file name ≡ false }
+    ensures { OnOk result ((image : Image) → IfSome (image name) (λ bytes. log.old.items ≡ bytes) → IfSome (held image event.now name) (λ bytes. log.new.items ≡ bytes)) }
+{
+    match event {
+        Event::Put(put, value) if *put == name => {
+            log.clear();
+            if let Some(bytes) = value {
+                log.extend_from_slice(bytes)?;
+            }
+        }
+        Event::Append(to, bytes) if *to == name => log.extend_from_slice(bytes)?,
+        _ => {}
+    }
+    Ok(())
+}
+
+/// All names that stand for something, in order.
+pub fn names_in(alloc: Global, events: &[Event]) -> Result<Vec<Name>, AllocError>
+    ensures order { IfOk result (λ names. IsStrictlySortedBy ⟦<Name as Ord>⟧.cmp names.items) }
+    ensures all { IfOk result (λ names. (name : Name) → Contains names.items name ↔ IsSome (fold held nothing events.now name)) }
+{
+    let mut names = BTreeSet::new(alloc);
+    for event in events {
+        names_after(&mut names, event)?;
+    }
+    in_order(alloc, names)
+}
+
+// The names of a set, in order.
+fn in_order(alloc: Global, names: BTreeSet<Name>) -> Result<Vec<Name>, AllocError>
+    ensures order { IfOk result (λ list. IsStrictlySortedBy ⟦<Name as Ord>⟧.cmp list.items) }
+    ensures items { IfOk result (λ list. list.items ≡ names.keys) }
+{
+    Ok(names.into_iter().collect(alloc)?)
+}
+
+// The names after one event more.
+fn names_after(names: &mut BTreeSet<Name>, event: &Event) -> Result<(), AllocError>
+    ensures { OnOk result ((image : Image) → Lists ⟦<Name as Ord>⟧.cmp names.old image → Lists ⟦<Name as Ord>⟧.cmp names.new (held image event.now)) }
+{
+    match event {
+        Event::Put(name, Some(_)) => {
+            names.insert(*name)?;
+        }
+        Event::Put(name, None) => {
+            names.remove(name);
+        }
+        _ => {}
+    }
+    Ok(())
+}
