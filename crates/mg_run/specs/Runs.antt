@@ -134,6 +134,12 @@ StopsReading left left' faults faults' fault.ReadFault = Rose faults faults'
 StopsReading left left' faults faults' (fault.TooLong limit) = IsTooLong left left' limit
 StopsReading left left' faults faults' other = ⊥
 
+-- why one read gave nothing
+abbrev pub FailsRead : ℕ → ℕ → Fault → Type 0
+FailsRead faults faults' fault.NoMemory = Unit {0}
+FailsRead faults faults' fault.ReadFault = Rose faults faults'
+FailsRead faults faults' other = ⊥
+
 -- one piece of the input was taken, to which the bytes read so far grew; an empty piece means the end
 pub record TakesPiece (left left' : Option (List ℕ)) (bytes bytes' : List ℕ) (count : ℕ) : Type 0 where
   pub piece : List ℕ
