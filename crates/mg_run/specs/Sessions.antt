@@ -9,7 +9,7 @@ use Rattle.mg_model.specs.declared.replies.Answer.{Answer}
 use Rattle.mg_model.specs.History.{History, after_history}
 use Rattle.mg_model.specs.State.{new_state, length_of}
 use Rattle.mg_script.specs.declared.script.Line.{Line}
-use Rattle.mg_script.specs.Transcript.{answer_line}
+use Rattle.mg_script.specs.Transcript.{answer_line, end_line}
 use Rattle.mg_run.specs.declared.session.Session.{Session}
 use Rattle.mg_run.specs.Answers.{AllFit, Fits}
 use Rattle.mg_run.specs.Runs.{answer_lines, answers_status, call_number}
@@ -79,3 +79,7 @@ pub record NextAnswer (session : Session) (lines : List Line) (answers : List An
   pub stands : StandsAt session (lines ++ line ∷ []) (answers ++ answer ∷ []) after
   pub fits : Fits new_state before line answer after
   pub numbered : number ≡ call_number lines line
+
+-- the end line where a session stands
+abbrev pub end_text : Session → List ℕ
+end_text session = end_line 0 session.places (length_of session.plain) session.plain.epoch

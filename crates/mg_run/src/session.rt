@@ -1,7 +1,6 @@
 //! The calls of a script, answered one after the other by one plain machine.
 
 ghost use Rattle.std.specs.Prelude.{◌≡◌, ◌≤◌, ◌<◌, ℕ, List, length, MatchResult, IsOkUnless, slice_index, ◌^◌};
-ghost use Rattle.std.specs.List.{All};
 ghost use Rattle.mg_model.specs.declared.replies.Answer.{Answer};
 ghost use Rattle.mg_model.specs.History.{History, after_history};
 ghost use Rattle.mg_model.specs.State.{HasRoom, length_of, new_state};
@@ -19,7 +18,7 @@ use mg_script::{Line, put_answer};
 use std::alloc::Global;
 
 /// How many clients there are.
-const CLIENTS: usize = 16;
+pub const CLIENTS: usize = 16;
 
 /// Where the calls have led.
 #[derive(Debug, Drop)]
@@ -28,7 +27,7 @@ pub struct Session {
     /// How many calls took a place.
     pub places: u64,
     /// How many calls each client made.
-    pub counts: [u64; 16],
+    pub counts: [u64; CLIENTS],
     /// The gravest status of the answers.
     pub status: u8,
 }
