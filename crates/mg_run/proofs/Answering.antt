@@ -1,6 +1,6 @@
 -- Answers to lines, one more at the end.
-use Rattle.std.proofs.Common.{◌≡◌, ◌≤◌, ℕ, ◌+◌, List, [], ◌∷◌, ◌++◌, length, map, Option, Result, Ok, Err, refl, ap, subst, sym, ◌∙◌}
-use Rattle.std.specs.List.{fold, count_by}
+use Rattle.std.proofs.Common.{◌≡◌, ℕ, List, [], ◌∷◌, ◌++◌, map, refl, ap, subst, sym, ◌∙◌}
+use Rattle.std.specs.List.{fold}
 use Rattle.std.proofs.lemmas.List.{append_assoc, append-nil, map-append}
 use Rattle.std.proofs.lemmas.List.Sums.{fold-append}
 use Rattle.mg_model.specs.declared.replies.Answer.{Answer}

@@ -1,14 +1,13 @@
 -- How a run breaks off.
-use Rattle.std.proofs.Common.{◌≡◌, ◌≤◌, ℕ, ◌+◌, List, [], ◌++◌, length, take, Option, Ok, ap, subst, sym, ◌∙◌, inr, arith, Bool, true}
+use Rattle.std.proofs.Common.{◌≡◌, ◌≤◌, ℕ, List, [], ◌++◌, length, take, Option, Ok, ap, subst, sym, ◌∙◌, inr, arith, Bool, true}
 use Rattle.std.specs.Bool.{◌==◌, if◌then◌else◌}
-use Rattle.std.specs.Io.KnownBytes.{Appends}
 use Rattle.std.proofs.KnownBytes.{Appends-trans}
 use Rattle.std.proofs.lemmas.List.{append_assoc, take_all}
 use Rattle.std.proofs.lemmas.Bool.Decides.{nat_tests}
 use Rattle.mg_model.specs.declared.faults.Fault.{Fault}
 use Rattle.mg_model.specs.declared.faults.Fault.TheVariants as fault
 use Rattle.mg_model.specs.declared.replies.Answer.{Answer}
-use Rattle.mg_model.specs.History.{History, after_history}
+use Rattle.mg_model.specs.History.{History}
 use Rattle.mg_model.specs.State.{State, new_state, length_of}
 use Rattle.mg_script.specs.declared.script.Line.{Line}
 use Rattle.mg_script.specs.Script.{script_of}
@@ -66,9 +65,9 @@ breaks_at_end left left' w w' w'' bytes lines session r s a f =
     let all : take (length lines) lines ≡ lines = take_all (length lines) lines (omega arith) in
     let calls = answer_lines [] lines a.answers in
     let text : text_of lines (length lines) a.answers a.history ≡ calls ++ end_text session =
-      ap (λ (ls : List Line). answer_lines [] ls a.answers ++ (if length lines == length lines then last_line a.history else [])) all
-      ∙ ap (λ (b : Bool). calls ++ (if b then last_line a.history else [])) (same (length lines))
-      ∙ ap (λ (t : List ℕ). calls ++ t) (sym (end_of session lines a.answers a.history a.stands)) in
+    ap (λ (ls : List Line). answer_lines [] ls a.answers ++ (if length lines == length lines then last_line a.history else [])) all
+    ∙ ap (λ (b : Bool). calls ++ (if b then last_line a.history else [])) (same (length lines))
+    ∙ ap (λ (t : List ℕ). calls ++ t) (sym (end_of session lines a.answers a.history a.stands)) in
     record {
       bytes = bytes;
       lines = lines;

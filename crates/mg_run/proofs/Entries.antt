@@ -1,21 +1,18 @@
 -- One call more in a history.
-use Rattle.std.proofs.Common.{◌≡◌, ◌≤◌, ℕ, ◌+◌, ◌-◌, List, [], ◌∷◌, ◌++◌, length, take, min, map, Bool, true, false, Option, None, Some, Result, Ok, Err, refl, ap, sym, ◌∙◌, arith}
-use Rattle.std.specs.Bool.{if◌then◌else◌, MatchBool}
-use Rattle.std.specs.Option.{option_map}
+use Rattle.std.proofs.Common.{◌≡◌, ◌≤◌, ℕ, ◌+◌, ◌-◌, [], ◌∷◌, length, take, map, true, false, Option, None, Some, Ok, Err, refl, ap, sym, ◌∙◌, arith}
 use Rattle.std.specs.List.{fold}
-use Rattle.std.proofs.lemmas.List.{map-append, take_at, length_push, length-take}
+use Rattle.std.proofs.lemmas.List.{map-append, take_at, length_push}
 use Rattle.std.proofs.lemmas.List.Sums.{fold-append}
 use Rattle.std.proofs.lemmas.Bool.{false≢true}
 use Rattle.mg_model.specs.declared.calls.Call.{Call}
 use Rattle.mg_model.specs.declared.calls.Call.TheVariants.{Set, Del, Get, Feed, Mark, Forget, Rollback, Clear, Sync, Compact, Stats}
 use Rattle.mg_model.specs.declared.faults.Fault.TheVariants.{NoMemory}
-use Rattle.mg_model.specs.declared.replies.Answer.{Answer}
 use Rattle.mg_model.specs.declared.replies.Reply.{Reply}
 use Rattle.mg_model.specs.History.{History, after_history, reply_at}
 use Rattle.mg_model.specs.State.{State, Outcome, new_state, step, length_of}
 use Rattle.mg_script.specs.declared.script.Line.{Line}
 use Rattle.mg_script.specs.Script.{IsSpoken}
-use Rattle.mg_run.specs.Answers.{is_read, entered, next_place, Fits, Enters}
+use Rattle.mg_run.specs.Answers.{is_read, entered, next_place, Enters}
 
 -- the state after one call more
 entered_state : (before : History) (line : Line) → after_history new_state (entered before line) ≡ (step (after_history new_state before) line.call).state

@@ -1,20 +1,18 @@
 -- All calls, one after the other.
-use Rattle.std.proofs.Common.{◌≡◌, ◌<◌, ◌≤◌, ℕ, ◌+◌, ◌^◌, List, [], ◌∷◌, ◌++◌, length, take, get_or, Option, refl, ap, subst, sym, ◌∙◌, arith}
+use Rattle.std.proofs.Common.{◌≡◌, ◌<◌, ◌≤◌, ℕ, ◌+◌, ◌^◌, List, [], ◌∷◌, ◌++◌, length, take, get_or, Option, ap, subst, sym, ◌∙◌, arith}
 use Rattle.std.specs.Bool.{◌==◌}
-use Rattle.std.specs.List.{count_by, slice_index}
+use Rattle.std.specs.List.{slice_index}
 use Rattle.std.specs.Io.KnownBytes.{Appends}
 use Rattle.std.proofs.KnownBytes.{Appends-trans}
-use Rattle.std.proofs.lemmas.List.{append_assoc, length-take, take_more, length_push}
+use Rattle.std.proofs.lemmas.List.{append_assoc, length-take, take_more}
 use Rattle.std.proofs.lemmas.List.Sums.{count_by-le-length}
 use Rattle.mg_model.specs.declared.faults.Fault.{Fault}
 use Rattle.mg_model.specs.declared.faults.Fault.TheVariants as fault
-use Rattle.mg_model.specs.declared.replies.Answer.{Answer}
-use Rattle.mg_model.specs.History.{History}
 use Rattle.mg_model.specs.State.{new_state, length_of}
 use Rattle.mg_script.specs.declared.script.Line.{Line}
 use Rattle.mg_script.specs.Transcript.{answer_line}
 use Rattle.mg_run.specs.declared.session.Session.{Session}
-use Rattle.mg_run.specs.Answers.{AllFit, Fits}
+use Rattle.mg_run.specs.Answers.{AllFit}
 use Rattle.mg_run.specs.Runs.{answer_lines, call_number}
 use Rattle.mg_run.specs.Sessions.{Answered, AnsweredFront, AnsweredNext, AnsweredNextFront, StandsAt, StopsCall, StopsCalls}
 use Rattle.mg_run.proofs.Answering.{fit-push, lines-push}

@@ -1,5 +1,5 @@
 -- A session, one call on.
-use Rattle.std.proofs.Common.{◌≡◌, ◌≢◌, ◌<◌, ◌≤◌, ℕ, ◌+◌, List, [], ◌∷◌, ◌++◌, length, Bool, cond, ⊎_elim, add-zero, zero-add, ap, sym, ◌∙◌, arith, get_or-set_same, get_or-set_other}
+use Rattle.std.proofs.Common.{◌≡◌, ◌≢◌, ◌<◌, ℕ, ◌+◌, List, [], ◌∷◌, ◌++◌, length, Bool, cond, ⊎_elim, add-zero, zero-add, ap, sym, ◌∙◌, arith, get_or-set_same, get_or-set_other}
 use Rattle.std.specs.Bool.{◌==◌}
 use Rattle.std.specs.List.{count_by, slice_index, slice_set}
 use Rattle.std.proofs.lemmas.List.{length_push, length-set}
@@ -8,11 +8,11 @@ use Rattle.std.proofs.lemmas.Bool.{cases_eq}
 use Rattle.std.proofs.lemmas.Bool.Decides.{nat_tests}
 use Rattle.mg_model.specs.declared.replies.Answer.{Answer}
 use Rattle.mg_model.specs.History.{History}
-use Rattle.mg_model.specs.State.{State, new_state, length_of}
+use Rattle.mg_model.specs.State.{new_state}
 use Rattle.mg_script.specs.declared.script.Line.{Line}
 use Rattle.mg_run.specs.declared.session.Session.{Session}
 use Rattle.mg_run.specs.Answers.{Enters}
-use Rattle.mg_run.specs.Runs.{answers_status, call_number, graver, result_status}
+use Rattle.mg_run.specs.Runs.{graver, result_status}
 use Rattle.mg_run.specs.Sessions.{NextAnswer, StandsAt}
 use Rattle.mg_run.proofs.Answering.{fit-push, status-push}
 

@@ -1,5 +1,5 @@
 -- What a run reads, writes and answers.
-use Rattle.std.specs.Prelude.{◌≡◌, ◌≤◌, ℕ, ◌+◌, List, [], ◌∷◌, ◌++◌, length, take, map, Bool, ◌||◌, ◌==◌, Option, None, Some, Result, Ok, Err, ◌⊎◌, if◌then◌else◌}
+use Rattle.std.specs.Prelude.{◌≡◌, ◌≤◌, ℕ, ◌+◌, List, [], ◌∷◌, ◌++◌, length, take, map, ◌||◌, ◌==◌, Option, Result, Ok, Err, ◌⊎◌, if◌then◌else◌}
 use Rattle.std.specs.List.{count_by, fold}
 use Rattle.std.specs.Io.KnownBytes.{Appends, Consumes, IsAtEnd, Keeps}
 use Rattle.mg_faults.specs.Causes.{Rose}
@@ -9,7 +9,7 @@ use Rattle.mg_model.specs.declared.faults.Why.{Why}
 use Rattle.mg_model.specs.declared.replies.Answer.{Answer}
 use Rattle.mg_model.specs.declared.replies.Reply.{Reply}
 use Rattle.mg_model.specs.History.{History, after_history}
-use Rattle.mg_model.specs.State.{State, new_state, length_of}
+use Rattle.mg_model.specs.State.{new_state, length_of}
 use Rattle.mg_script.specs.declared.script.Line.{Line}
 use Rattle.mg_script.specs.Script.{script_of}
 use Rattle.mg_script.specs.Transcript.{answer_line, end_line}

@@ -8,3 +8,6 @@ mod streams;
 mod words;
 
 pub use single::{Ran, alone};
+
+#[cfg(test)]
+mod tests;

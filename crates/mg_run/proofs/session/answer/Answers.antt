@@ -1,4 +1,4 @@
-use Rattle.std.proofs.Common.{◌≡◌, ◌+◌, Some, ap, sym}
+use Rattle.std.proofs.Common.{◌+◌, Some, ap, sym}
 use Rattle.mg_run.proofs.Entries.{enters_read}
 use Rattle.mg_run.proofs.session.answer.Goals as goal
 

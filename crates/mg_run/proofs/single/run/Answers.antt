@@ -1,7 +1,5 @@
-use Rattle.std.proofs.Common.{◌≡◌, ◌∙◌, Ok, ap, subst, sym, List}
-use Rattle.mg_script.specs.declared.script.Line.{Line}
+use Rattle.std.proofs.Common.{◌≡◌, ◌∙◌, Ok, ap, sym}
 use Rattle.mg_script.specs.Script.{script_of}
-use Rattle.mg_run.specs.Sessions.{Answered, StopsCalls}
 use Rattle.mg_run.proofs.Ends.{stops_in_calls, stops_at_end}
 use Rattle.mg_run.proofs.single.run.Goals as goal
 
