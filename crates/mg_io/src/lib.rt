@@ -14,3 +14,6 @@ pub use adapters::{StdSink, StdSource};
 pub use errors::IoError;
 pub use fakes::{MemSink, MemSource};
 pub use traits::{Sink, Source};
+
+#[cfg(test)]
+mod tests;

@@ -20,3 +20,6 @@ pub use faults::{Fault, FileId, Why};
 pub use laws::changes_lead_where_calls_lead;
 pub use machine::Plain;
 pub use replies::{Answer, Reply};
+
+#[cfg(test)]
+mod tests;

@@ -11,3 +11,6 @@ mod transcript;
 pub use messages::fault_text;
 pub use script::{Line, read_script};
 pub use transcript::{put_answer, put_end};
+
+#[cfg(test)]
+mod tests;

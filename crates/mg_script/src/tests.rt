@@ -1,0 +1,168 @@
+//! Texts of answers and of faults, compared with the formats' own words.
+
+use crate::{fault_text, put_answer, put_end, read_script};
+use mg_items::Items;
+use mg_model::{Answer, Call, Doc, Fault, FileId, Item, Key, Reply, Why};
+use std::alloc::Global;
+use std::process::Abort;
+use std::test::Fail;
+
+fn key(alloc: Global, text: &str) -> Result<Key, Fail> {
+    Ok(Key::new(alloc, text.as_bytes())?.ok_or("no key")?)
+}
+
+fn doc(alloc: Global, text: &str) -> Result<Doc, Fail> {
+    Ok(Doc::new(alloc, text.as_bytes())?.ok_or("no document")?)
+}
+
+fn said(rt: &impl Abort, alloc: Global, reply: Reply, text: &str) -> Result<(), Fail> {
+    let answer = Answer {
+        place: Some(7),
+        result: Ok(reply),
+    };
+    let mut out = Vec::new(alloc);
+    put_answer(3, 2, 1, &answer, &mut out)?;
+    assert_eq!(rt; out.as_slice(), text.as_bytes());
+    Ok(())
+}
+
+#[test]
+fn replies_are_spelled(rt: HostRuntime) -> Result<(), Fail> {
+    let alloc = rt.alloc();
+    let found = Reply::Found {
+        seq: 12,
+        doc: doc(alloc, "a b%")?,
+    };
+    said(&rt, alloc, found, "3 2 1 @7 doc 12 a%20b%25\n")?;
+    let mut items = Items::new(alloc);
+    items.push(Item {
+        seq: 1,
+        key: key(alloc, "k")?,
+        doc: None,
+    })?;
+    items.push(Item {
+        seq: 2,
+        key: key(alloc, "[")?,
+        doc: Some(doc(alloc, "")?),
+    })?;
+    let feed = Reply::Feed {
+        epoch: 4,
+        end: 2,
+        items,
+    };
+    said(
+        &rt,
+        alloc,
+        feed,
+        "3 2 1 @7 feed 4 2 [1 del k] [2 set %5B %]\n",
+    )?;
+    said(
+        &rt,
+        alloc,
+        Reply::Back { mark: 5, epoch: 1 },
+        "3 2 1 @7 back 5 1\n",
+    )?;
+    said(
+        &rt,
+        alloc,
+        Reply::Reset { least: None },
+        "3 2 1 @7 reset -\n",
+    )?;
+    said(&rt, alloc, Reply::Full { kept: 16 }, "3 2 1 @7 full 16\n")?;
+    said(&rt, alloc, Reply::Synced, "3 2 1 @7 synced\n")?;
+    let compacted = Reply::Compacted {
+        through: 6,
+        keys: 3,
+        bytes: 6,
+    };
+    said(&rt, alloc, compacted, "3 2 1 @7 compact 6 3 6\n")?;
+    Ok(())
+}
+
+#[test]
+fn faults_and_ends_are_spelled(rt: HostRuntime) -> Result<(), Fail> {
+    let alloc = rt.alloc();
+    let mut out = Vec::new(alloc);
+    let answer = Answer {
+        place: None,
+        result: Err(Fault::WriteFault),
+    };
+    put_answer(0, 2, 0, &answer, &mut out)?;
+    put_end(0, 2, 1, 0, &mut out)?;
+    assert_eq!(rt;
+        out.as_slice(),
+        b"0 2 0 @- fault write\nend 0 2 1 0\n".as_slice()
+    );
+    let file = FileId {
+        part: 2,
+        kind: 1,
+        number: 9,
+    };
+    let rows = [
+        (Fault::NoMemory, "no memory"),
+        (
+            Fault::BadLine {
+                line: 1,
+                why: Why::Part,
+            },
+            "line 1: partition",
+        ),
+        (
+            Fault::TooLong { limit: 67_108_864 },
+            "input over 67108864 bytes",
+        ),
+        (
+            Fault::FewerParts { asked: 1, kept: 2 },
+            "partitions asked 1 kept 2",
+        ),
+        (
+            Fault::Damaged {
+                file,
+                at: 3,
+                kept: 4,
+                found: 5,
+            },
+            "damaged 2 1 9 at 3 kept 4 found 5",
+        ),
+        (
+            Fault::Gap {
+                part: 0,
+                applied: 1,
+                low: 0,
+                high: 0,
+            },
+            "gap 0 applied 1 low 0 high 0",
+        ),
+        (Fault::Worn { kept: 8 }, "worn 8"),
+    ];
+    for (fault, text) in rows {
+        let mut out = Vec::new(alloc);
+        fault_text(&fault, &mut out)?;
+        assert_eq!(rt; out.as_slice(), text.as_bytes());
+    }
+    Ok(())
+}
+
+#[test]
+fn a_script_is_read(rt: HostRuntime) -> Result<(), Fail> {
+    let lines = read_script(rt.alloc(), b"15 set 1 %25 a%20b\n0 feed 0 1 2 1000\n", 2)?;
+    assert_eq!(rt; lines.len(), 2);
+    assert_eq!(rt; lines[0].client, 15);
+    assert_eq!(rt; lines[0].part, 1);
+    let Call::Set { key, doc } = &lines[0].call else {
+        return Err(Fail::from("no set"));
+    };
+    assert_eq!(rt; key.bytes(), b"%".as_slice());
+    assert_eq!(rt; doc.bytes(), b"a b".as_slice());
+    assert!(rt;
+        matches!(
+            lines[1].call,
+            Call::Feed {
+                epoch: 1,
+                after: 2,
+                limit: 1000
+            }
+        )
+    );
+    Ok(())
+}
