@@ -5,7 +5,7 @@
 //! answer "failed" only where the count rose refuses a body that gives up.
 #![tactic(auto)]
 
-ghost use Rattle.std.specs.Prelude.{◌≡◌, ◌-◌};
+ghost use Rattle.std.specs.Prelude.{◌≡◌, ◌≤◌, ◌-◌};
 ghost use Rattle.mg_faults.specs.Causes.{raised};
 
 use std::marker::Model;
@@ -35,14 +35,16 @@ impl FaultCount {
 
     /// One fault more.
     pub fn rise(&mut self)
-        ensures { self.new ≡ raised self.old 1 }
+        ensures count { self.new ≡ raised self.old 1 }
+        ensures later { self.old ≤ self.new }
     {
         self.count = self.count.saturating_add(1);
     }
 
     /// As many faults more as another count rose by, from `before` on.
     pub fn rise_by(&mut self, before: FaultCount, now: FaultCount)
-        ensures { self.new ≡ raised self.old (now - before) }
+        ensures count { self.new ≡ raised self.old (now - before) }
+        ensures later { self.old ≤ self.new }
     {
         let rise = now.count.saturating_sub(before.count);
         self.count = self.count.saturating_add(rise);

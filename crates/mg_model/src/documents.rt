@@ -45,6 +45,18 @@ impl Key {
         Ok(Some(Key { bytes }))
     }
 
+    /// The bytes as a key, or `None` where they are too few or too many. Takes no memory.
+    pub fn from_vec(bytes: Vec<u8>) -> Option<Key>
+        ensures { SomeIff result (IsKey bytes.items) bytes.items }
+    {
+        if bytes.is_empty() || bytes.len() > Key::MAX_LEN {
+            return None;
+        }
+        Some(Key {
+            bytes: Items::from_vec(bytes),
+        })
+    }
+
     pub fn bytes(&self) -> &[u8]
         ensures bytes { result.now ≡ self.now }
         ensures form { IsKey self.now }
@@ -96,6 +108,18 @@ impl Doc {
         }
         let bytes = Items::from_slice(alloc, bytes)?;
         Ok(Some(Doc { bytes }))
+    }
+
+    /// The bytes as a document, or `None` where they are too many. Takes no memory.
+    pub fn from_vec(bytes: Vec<u8>) -> Option<Doc>
+        ensures { SomeIff result (IsDoc bytes.items) bytes.items }
+    {
+        if bytes.len() > Doc::MAX_LEN {
+            return None;
+        }
+        Some(Doc {
+            bytes: Items::from_vec(bytes),
+        })
     }
 
     pub fn bytes(&self) -> &[u8]

@@ -1,0 +1,4 @@
+pub mod Tokens
+pub mod Fields
+pub mod Script
+pub mod Transcript

@@ -1,0 +1,13 @@
+//! Scripts and transcripts: what a client's calls look like as text, and the answers to them.
+#![tactic(auto)]
+
+mod fields;
+mod messages;
+mod pieces;
+mod script;
+mod tokens;
+mod transcript;
+
+pub use messages::fault_text;
+pub use script::{Line, read_script};
+pub use transcript::{put_answer, put_end};
