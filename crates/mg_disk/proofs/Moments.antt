@@ -2,7 +2,7 @@
 use Rattle.std.proofs.Common.{◌≡◌, inl, inr, ⊎_elim, ℕ, List, ◌++◌, sym, ◌∙◌, ap, arith, append_assoc}
 use Rattle.std.specs.Prelude.{Some, Result, Ok, Err, OnOk, OnErr}
 use Rattle.mg_disk.specs.declared.names.Name.{Name}
-use Rattle.mg_disk.specs.Images.{Image, View, Elapses, Grows, Appended, AppendFailed, Stays}
+use Rattle.mg_disk.specs.Images.{Image, View, Elapses, Grows, Appended, AppendFailed}
 use Rattle.mg_disk.specs.Moments.{LeavesOnly, EachImage, Begins}
 
 -- before the first call

@@ -1,5 +1,5 @@
 -- A change of one slot changes what is said of one volume.
-use Rattle.std.proofs.Common.{◌≡◌, ◌≢◌, ◌<◌, inl, inr, ℕ, zero, suc, Bool, true, false, List, [], ◌∷◌, length, get_or, set, refl, sym, ◌∙◌, ap, subst, arith, cond}
+use Rattle.std.proofs.Common.{◌≡◌, ◌≢◌, ◌<◌, ◌≤◌, inl, inr, ℕ, zero, suc, Bool, true, false, List, [], ◌∷◌, length, get_or, set, refl, sym, ◌∙◌, ap, subst, arith, cond}
 use Rattle.std.proofs.lemmas.Bool.Decides.{nat_tests}
 use Rattle.std.specs.Prelude.{Option, Some, None, is_none, IsSome}
 use Rattle.std.specs.List.{slice_get}
@@ -7,7 +7,7 @@ use Rattle.mg_disk.specs.Hosts.{SameButFor, GivenBack, Lent, OpensFound, IsVolum
 use Rattle.mg_disk.specs.Images.{Opened}
 use Rattle.mg_memdisk.specs.declared.hosts.Slot.{Slot}
 use Rattle.mg_memdisk.specs.declared.volumes.MemVolume.{MemVolume}
-use Rattle.mg_memdisk.specs.Hosts.{slot_of, slot_out, slot_inside, slot_faults, state_of, Puts}
+use Rattle.mg_memdisk.specs.Hosts.{slot_of, slot_out, slot_inside, slot_faults, state_of, HasEmpty, IsEmptySlot, Puts}
 use Rattle.mg_memdisk.specs.Volumes.{mem_view}
 use Rattle.mg_memdisk.specs.Places.{place_of, is_volume}
 
@@ -129,6 +129,11 @@ some_not_none (Some vol) some = refl
 place_below : (n : ℕ) → place_of n < 65
 place_below n = grind (arith, nat_tests)
 
+get_none : {X : Type 0} (xs : List X) (i : ℕ) → slice_get xs i ≡ None → length xs ≤ i
+get_none [] i e = omega arith
+get_none (y ∷ xs) zero e = absurd (cc)
+get_none (y ∷ xs) (suc i) e = let le = get_none xs i e in omega arith
+
 -- where each slot has its volume, none is out
 pub none_out : (slots : List Slot) → ((k : ℕ) (d : Slot) → k < 65 → IsSome (get_or slots k d).inside) → (n : ℕ) → slot_out (slot_of slots n) ≡ false
 none_out slots each n = by_volume (is_volume n)
@@ -140,3 +145,17 @@ none_out slots each n = by_volume (is_volume n)
     by_volume : (t : Bool) → slot_out (cond t (slice_get slots (place_of n)) None) ≡ false
     by_volume true = by_slot (slice_get slots (place_of n)) refl
     by_volume false = refl
+
+-- where each slot has an empty volume, each volume is empty
+pub each_empty : (settings : Option (List ℕ)) (slots : List Slot) → length slots ≡ 65 → ((k : ℕ) (d : Slot) → k < 65 → IsEmptySlot (get_or slots k d)) → (n : ℕ) → IsVolume n → HasEmpty n (state_of settings slots)
+each_empty settings slots len each n there = by_slot (slice_get slots (place_of n)) refl
+  where
+    by_slot : (o : Option Slot) → slice_get slots (place_of n) ≡ o → HasEmpty n (state_of settings slots)
+    by_slot None e = absurd (none (get_none slots (place_of n) e))
+      where
+        none : length slots ≤ place_of n → ⊥
+        none le = omega (arith, len, place_below n)
+    by_slot (Some slot) e =
+        let empty = subst IsEmptySlot (found_at slots (place_of n) slot e) (each (place_of n) slot (place_below n)) in
+        let at : slot_of slots n ≡ Some slot = ap (λ (t : Bool). cond t (slice_get slots (place_of n)) None) (exists n there) ∙ e in
+        record { vol = empty.vol; inside = ap slot_inside at ∙ empty.inside; is_new = empty.is_new }

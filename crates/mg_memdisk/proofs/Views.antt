@@ -107,9 +107,14 @@ module _ {T E : Type 0} (v w : MemVolume) (name : Name) where
   on_put (Ok x) value p = view_put v w name value p
   on_put (Err e) value p = tt
 
-  pub on_doubt : (r : Result T E) (value : Option Bytes) → OnErr r (Untouched v w ⊎ Pushes (MayPut name value) v w) → OnErr r (NameInDoubt name (value_bytes value) (mem_view v) (mem_view w))
-  on_doubt (Ok x) value p = tt
-  on_doubt (Err e) value p = view_doubt v w name value p
+  pub on_same : (r : Result T E) (value : Option Bytes) → OnErr r (Untouched v w) → OnErr r (NameInDoubt name (value_bytes value) (mem_view v) (mem_view w))
+  on_same (Ok x) value u = tt
+  on_same (Err e) value u = view_doubt v w name value (inl u)
+
+  -- whatever the push answers, the name is at most in doubt
+  pub in_doubt : (r : Result T E) (value : Option Bytes) → OnOk r (Pushes (MayPut name value) v w) → OnErr r (Untouched v w) → NameInDoubt name (value_bytes value) (mem_view v) (mem_view w)
+  in_doubt (Ok x) value p u = view_doubt v w name value (inr p)
+  in_doubt (Err e) value p u = view_doubt v w name value (inl u)
 
   pub on_sync : (r : Result T E) → OnOk r (Pushes (Sync name) v w) → OnOk r (Synced name (mem_view v) (mem_view w))
   on_sync (Ok x) p = view_sync v w name p

@@ -1,11 +1,13 @@
 -- What a host in memory holds.
-use Rattle.std.specs.Prelude.{◌≡◌, ℕ, Bool, false, if◌then◌else◌, Option, None, Some, option_map, is_none, List}
+use Rattle.std.specs.Prelude.{◌≡◌, ℕ, Bool, false, if◌then◌else◌, Option, None, Some, option_map, is_none, List, [], ◌∷◌, Vec}
+use Rattle.std.specs.declared.alloc.Global.{Global}
 use Rattle.std.specs.List.{slice_get}
 use Rattle.mg_disk.specs.Hosts.{HostState, SameButFor}
 use Rattle.mg_memdisk.specs.declared.hosts.MemHost.{MemHost}
 use Rattle.mg_memdisk.specs.declared.hosts.Slot.{Slot}
 use Rattle.mg_memdisk.specs.declared.volumes.MemVolume.{MemVolume}
 use Rattle.mg_memdisk.specs.Places.{place_of, is_volume}
+use Rattle.mg_memdisk.specs.Volumes.{mem_view, mem_calls, IsEmpty}
 
 -- the slot of volume n
 abbrev pub slot_of : List Slot → ℕ → Option Slot
@@ -38,6 +40,36 @@ state_of settings slots = record {
 
 abbrev pub mem_state : MemHost → HostState MemVolume
 mem_state host = state_of (option_map (λ bytes. bytes.items) host.settings) host.slots
+
+-- how often the host and what it got back have failed
+abbrev pub host_faults : MemHost → ℕ
+host_faults host = host.faults
+
+-- the numbers of the failing calls of each port that is still to be made
+abbrev pub host_ports : MemHost → List (Vec ℕ Global)
+host_ports host = host.ports.items
+
+-- the first of the lists, or none
+abbrev pub first_failing : List (Vec ℕ Global) → List ℕ
+first_failing [] = []
+first_failing (failing ∷ ports) = failing.items
+
+-- an empty volume, none of whose calls fail
+pub record IsNewVolume (vol : MemVolume) : Type 0 where
+  pub empty : IsEmpty (mem_view vol)
+  pub failing : (mem_calls vol).failing.items ≡ []
+
+-- volume n is in, is empty, and none of its calls fail
+pub record HasEmpty (n : ℕ) (state : HostState MemVolume) : Type 0 where
+  pub vol : MemVolume
+  pub inside : state.inside n ≡ Some vol
+  pub is_new : IsNewVolume vol
+
+-- the slot has such a volume
+pub record IsEmptySlot (slot : Slot) : Type 0 where
+  pub vol : MemVolume
+  pub inside : slot.inside ≡ Some vol
+  pub is_new : IsNewVolume vol
 
 -- volume n is now this one
 pub record Puts (n : ℕ) (vol : MemVolume) (old new : HostState MemVolume) : Type 0 where

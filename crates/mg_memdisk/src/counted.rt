@@ -1,8 +1,8 @@
 //! Calls that are counted, and fail by number.
 
-ghost use Rattle.std.specs.Prelude.{◌≡◌, ◌↔◌, IsErr, IsErrOf, IsTrue};
+ghost use Rattle.std.specs.Prelude.{◌≡◌, ◌↔◌, IsErrOf, IsTrue};
 ghost use Rattle.mg_faults.specs.Causes.{HasCause};
-ghost use Rattle.mg_memdisk.specs.Counted.{next_fails, CountedBy};
+ghost use Rattle.mg_memdisk.specs.Counted.{no_calls, next_fails, CountedBy};
 
 use mg_disk::DiskError;
 use mg_faults::FaultCount;
@@ -19,13 +19,11 @@ pub struct Counted {
 }
 
 impl Counted {
-    ghost use Rattle.mg_memdisk.specs.Counted.{next_fails, CountedBy};
+    ghost use Rattle.mg_memdisk.specs.Counted.{no_calls, next_fails, CountedBy};
 
     /// No call so far.
     pub fn new(failing: Vec<u64>) -> Counted
-        ensures failing { result.failing ≡ failing }
-        ensures calls { result.calls ≡ 0 }
-        ensures faults { result.faults ≡ 0 }
+        ensures { result ≡ no_calls failing }
     {
         Counted {
             failing,
@@ -37,7 +35,7 @@ impl Counted {
     /// Counts a call. It is `Failed` where its number is listed, and else Ok.
     pub fn count(&mut self) -> Result<(), DiskError>
         ensures counted { CountedBy self.old self.new }
-        ensures fails { IsErr result ↔ IsTrue (next_fails self.old) }
+        ensures fails { IsErrOf result DiskError.Failed ↔ IsTrue (next_fails self.old) }
         ensures memory { IsErrOf result DiskError.NoMemory → ⊥ }
         ensures cause { HasCause DiskError.Failed self.old.faults self.new.faults result }
     {

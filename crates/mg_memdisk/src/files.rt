@@ -1,7 +1,9 @@
 //! A port in memory.
 
-ghost use Rattle.std.specs.Prelude.{◌≡◌, Some};
-ghost use Rattle.mg_disk.specs.Files.{ReadsAt};
+ghost use Rattle.std.specs.Prelude.{◌≡◌, ◌≤◌, ◌↔◌, ◌++◌, Some, List, [], ℕ, length, IfOk, OnOk, OnErr, IsErrOf, IsTrue};
+ghost use Rattle.mg_faults.specs.Causes.{HasCause};
+ghost use Rattle.mg_disk.specs.Files.{IsFront, ReadsAt};
+ghost use Rattle.mg_memdisk.specs.Counted.{no_calls, next_fails, CountedBy};
 
 use crate::counted::Counted;
 use mg_disk::{DiskError, Files};
@@ -31,8 +33,12 @@ pub struct MemFiles {
 }
 
 impl MemFiles {
+    ghost use Rattle.mg_memdisk.specs.Files.{port_calls};
+
     /// A port whose calls with these numbers, from 1, fail.
-    pub fn new(failing: Vec<u64>) -> MemFiles {
+    pub fn new(failing: Vec<u64>) -> MemFiles
+        ensures { port_calls result ≡ no_calls failing }
+    {
         MemFiles {
             counted: Counted::new(failing),
         }
@@ -40,14 +46,15 @@ impl MemFiles {
 
     /// How many of its calls failed.
     pub fn faults(&self) -> FaultCount
-        ensures { result ≡ self.now.counted.faults }
+        ensures { result ≡ (port_calls self.now).faults }
     {
         self.counted.faults
     }
 }
 
+// Each call that has `&mut self` is counted, and fails exactly where its number is listed.
 impl Files for MemFiles {
-    ghost use Rattle.mg_memdisk.specs.Files.{draft_bytes, sealed_bytes};
+    ghost use Rattle.mg_memdisk.specs.Files.{draft_bytes, sealed_bytes, port_calls};
 
     type Draft = MemDraft;
 
@@ -59,35 +66,55 @@ impl Files for MemFiles {
 
     ghost identity = { sealed_bytes };
 
-    ghost faults = { λ port. port.counted.faults };
+    ghost faults = { λ port. (port_calls port).faults };
 
-    fn fresh(&mut self, alloc: Global) -> Result<MemDraft, DiskError> {
+    fn fresh(&mut self, alloc: Global) -> Result<MemDraft, DiskError>
+        ensures empty { IfOk result (λ draft. draft_bytes draft ≡ []) }
+        ensures cause { HasCause DiskError.Failed (port_calls self.old).faults (port_calls self.new).faults result }
+        ensures counted { CountedBy (port_calls self.old) (port_calls self.new) }
+        ensures fails { IsErrOf result DiskError.Failed ↔ IsTrue (next_fails (port_calls self.old)) }
+    {
         self.counted.count()?;
         Ok(MemDraft {
             bytes: Vec::new(alloc),
         })
     }
 
-    // A call that fails has appended the first half.
-    fn append(&mut self, _: Global, draft: &mut MemDraft, bytes: &[u8]) -> Result<(), DiskError> {
-        let counted = self.counted.count();
-        let taken = if counted.is_ok() {
-            bytes.len()
-        } else {
-            bytes.len() / 2
-        };
-        draft.bytes.extend_from_slice(&bytes[..taken])?;
-        counted
+    // A call that fails has appended the first half, or nothing where memory is short.
+    fn append(&mut self, _: Global, draft: &mut MemDraft, bytes: &[u8]) -> Result<(), DiskError>
+        ensures appended { OnOk result (draft_bytes draft.new ≡ draft_bytes draft.old ++ bytes.now) }
+        ensures part { OnErr result ((front : List ℕ) × IsFront front bytes.now × (draft_bytes draft.new ≡ draft_bytes draft.old ++ front)) }
+        ensures cause { HasCause DiskError.Failed (port_calls self.old).faults (port_calls self.new).faults result }
+        ensures counted { CountedBy (port_calls self.old) (port_calls self.new) }
+        ensures fails { IsErrOf result DiskError.Failed ↔ IsTrue (next_fails (port_calls self.old)) }
+    {
+        match self.counted.count() {
+            Ok(()) => Ok(draft.bytes.extend_from_slice(bytes)?),
+            Err(failed) => {
+                let _ = draft.bytes.extend_from_slice(&bytes[..bytes.len() / 2]);
+                Err(failed)
+            }
+        }
     }
 
-    fn seal(&mut self, alloc: Global, draft: MemDraft) -> Result<MemSealed, DiskError> {
+    fn seal(&mut self, alloc: Global, draft: MemDraft) -> Result<MemSealed, DiskError>
+        ensures sealed { IfOk result (λ file. sealed_bytes file ≡ draft_bytes draft) }
+        ensures cause { HasCause DiskError.Failed (port_calls self.old).faults (port_calls self.new).faults result }
+        ensures counted { CountedBy (port_calls self.old) (port_calls self.new) }
+        ensures fails { IsErrOf result DiskError.Failed ↔ IsTrue (next_fails (port_calls self.old)) }
+    {
         self.counted.count()?;
         Ok(MemSealed {
             bytes: Arc::new(alloc, draft.bytes)?,
         })
     }
 
-    fn len(&mut self, _: Global, file: &MemSealed) -> Result<u64, DiskError> {
+    fn len(&mut self, _: Global, file: &MemSealed) -> Result<u64, DiskError>
+        ensures len { IfOk result (λ len. len ≡ length (sealed_bytes file.now)) }
+        ensures cause { HasCause DiskError.Failed (port_calls self.old).faults (port_calls self.new).faults result }
+        ensures counted { CountedBy (port_calls self.old) (port_calls self.new) }
+        ensures fails { IsErrOf result DiskError.Failed ↔ IsTrue (next_fails (port_calls self.old)) }
+    {
         self.counted.count()?;
         Ok(file.bytes.len() as u64)
     }
@@ -98,7 +125,13 @@ impl Files for MemFiles {
         file: &MemSealed,
         at: u64,
         buf: &mut [u8],
-    ) -> Result<usize, DiskError> {
+    ) -> Result<usize, DiskError>
+        ensures bound { IfOk result (λ count. count ≤ length buf.old) }
+        ensures bytes { IfOk result (λ count. ReadsAt (sealed_bytes file.now) at buf.old buf.new count) }
+        ensures cause { HasCause DiskError.Failed (port_calls self.old).faults (port_calls self.new).faults result }
+        ensures counted { CountedBy (port_calls self.old) (port_calls self.new) }
+        ensures fails { IsErrOf result DiskError.Failed ↔ IsTrue (next_fails (port_calls self.old)) }
+    {
         self.counted.count()?;
         Ok(read_at(&file.bytes, at, buf))
     }
@@ -109,11 +142,15 @@ impl Files for MemFiles {
         })
     }
 
-    fn same(&self, a: &MemSealed, b: &MemSealed) -> bool {
+    fn same(&self, a: &MemSealed, b: &MemSealed) -> bool
+        ensures bytes { IsTrue result ↔ (sealed_bytes a.now ≡ sealed_bytes b.now) }
+    {
         a.bytes.as_slice() == b.bytes.as_slice()
     }
 
-    fn keeps(&self, file: &MemSealed) -> bool {
+    fn keeps(&self, file: &MemSealed) -> bool
+        ensures { IsTrue result ↔ (length (sealed_bytes file.now) ≤ 262144) }
+    {
         file.bytes.len() <= MAX_KEPT
     }
 }

@@ -25,15 +25,16 @@ pub struct Slot {
 }
 
 impl Slot {
-    ghost use Rattle.std.specs.Prelude.{◌≡◌, false, Some, None, IsSome};
+    ghost use Rattle.std.specs.Prelude.{◌≡◌, false, Some, None, IsSome, IfSome};
     ghost use Rattle.mg_disk.specs.declared.names.Name.{Name};
     ghost use Rattle.mg_disk.specs.Images.{Opened};
     ghost use Rattle.mg_memdisk.specs.declared.volumes.MemVolume.{MemVolume};
-    ghost use Rattle.mg_memdisk.specs.Volumes.{mem_view, mem_open};
+    ghost use Rattle.mg_memdisk.specs.Volumes.{mem_view, mem_open, mem_calls};
+    ghost use Rattle.mg_memdisk.specs.Hosts.{IsEmptySlot};
 
     // An empty volume.
     fn new(alloc: Global) -> Slot
-        ensures { IsSome result.inside }
+        ensures { IsEmptySlot result }
     {
         Slot {
             inside: Some(MemVolume::new(alloc, Vec::new(alloc))),
@@ -80,21 +81,23 @@ fn place(n: u16) -> usize
 }
 
 impl MemHost {
-    ghost use Rattle.std.specs.Prelude.{◌≡◌, ℕ, false, Some, IsErrOf, IsSome, option_map};
+    ghost use Rattle.std.specs.Prelude.{◌≡◌, ◌++◌, ◌∷◌, [], ℕ, false, Some, OnOk, IsErrOf, IsSome, option_map};
     ghost use Rattle.mg_disk.specs.Hosts.{IsVolume};
-    ghost use Rattle.mg_memdisk.specs.Hosts.{mem_state, Puts};
+    ghost use Rattle.mg_memdisk.specs.Hosts.{mem_state, host_faults, host_ports, HasEmpty, IsEmptySlot, Puts};
 
     /// A host with these settings and empty volumes, none of whose calls fail.
     pub fn new(alloc: Global, settings: Option<Vec<u8>>) -> MemHost
         ensures settings { (mem_state result).settings ≡ option_map (λ bytes. bytes.items) settings }
         ensures inside { (n : ℕ) → (mem_state result).out n ≡ false }
-        ensures faults { result.faults ≡ 0 }
+        ensures empty { (n : ℕ) → IsVolume n → HasEmpty n (mem_state result) }
+        ensures faults { host_faults result ≡ 0 }
+        ensures ports { host_ports result ≡ [] }
     {
         MemHost {
             settings,
             slots: array::from_fn(
                 |_| -> Slot
-                    ensures { IsSome result.inside }
+                    ensures { IsEmptySlot result }
                 { Slot::new(alloc) },
             ),
             ports: VecDeque::new(alloc),
@@ -115,6 +118,7 @@ impl MemHost {
 
     /// Gives the numbers of the calls, from 1, that fail in the next port for which this was not said yet.
     pub fn next_port(&mut self, failing: Vec<u64>) -> Result<(), DiskError>
+        ensures kept { OnOk result (host_ports self.new ≡ host_ports self.old ++ failing ∷ []) }
         ensures same { mem_state self.new ≡ mem_state self.old }
         ensures memory { IsErrOf result DiskError.Failed → ⊥ }
     {
@@ -133,13 +137,16 @@ impl MemHost {
 }
 
 impl Host for MemHost {
-    ghost use Rattle.mg_memdisk.specs.Hosts.{mem_state};
+    ghost use Rattle.std.specs.Prelude.{◌≡◌, IfOk, drop};
+    ghost use Rattle.mg_faults.specs.Causes.{HasCause};
+    ghost use Rattle.mg_memdisk.specs.Files.{port_calls};
+    ghost use Rattle.mg_memdisk.specs.Hosts.{mem_state, host_faults, host_ports, first_failing};
 
     type Vol = MemVolume;
 
     ghost state = { mem_state };
 
-    ghost faults = { λ host. host.faults };
+    ghost faults = { host_faults };
 
     fn settings(&mut self, alloc: Global) -> Result<Option<Vec<u8>>, DiskError> {
         match &self.settings {
@@ -160,7 +167,12 @@ impl Host for MemHost {
         self.slots[at].inside = Some(vol);
     }
 
-    fn files(&mut self, alloc: Global) -> Result<MemFiles, DiskError> {
+    fn files(&mut self, alloc: Global) -> Result<MemFiles, DiskError>
+        ensures same { mem_state self.new ≡ mem_state self.old }
+        ensures cause { HasCause DiskError.Failed (host_faults self.old) (host_faults self.new) result }
+        ensures failing { IfOk result (λ port. (port_calls port).failing.items ≡ first_failing (host_ports self.old)) }
+        ensures ports { host_ports self.new ≡ drop 1 (host_ports self.old) }
+    {
         let failing = match self.ports.pop_front() {
             Some(failing) => failing,
             None => Vec::new(alloc),

@@ -12,3 +12,6 @@ mod volumes;
 pub use files::{MemDraft, MemFiles, MemSealed};
 pub use hosts::MemHost;
 pub use volumes::{MemLog, MemVolume};
+
+#[cfg(test)]
+mod tests;

@@ -34,21 +34,20 @@ pub struct MemVolume {
 }
 
 impl MemVolume {
-    ghost use Rattle.std.specs.Prelude.{◌≡◌, ◌≢◌, ◌⊎◌, ◌++◌, ◌∷◌, [], ◌&&◌, ◌↔◌, true, false, not, is_some, IfOk, IfSome, IsSome, OnOk, OnErr, IsErrOf};
+    ghost use Rattle.std.specs.Prelude.{◌≡◌, ◌≢◌, ◌++◌, ◌∷◌, [], ◌&&◌, ◌↔◌, true, false, not, is_some, IfOk, IfSome, IsSome, OnOk, OnErr, IsErrOf};
     ghost use Rattle.std.specs.Option.{option_copied};
     ghost use Rattle.std.specs.List.{Contains};
     ghost use Rattle.std.specs.List.Sorted.{IsStrictlySortedBy};
     ghost use Rattle.mg_disk.specs.declared.names.Name.{Name};
-    ghost use Rattle.mg_disk.specs.Images.{NameSet, NameInDoubt, Appended, Opened, Stays};
-    ghost use Rattle.mg_faults.specs.Causes.{HasCause};
-    ghost use Rattle.mg_memdisk.specs.declared.events.Event.TheVariants.{Put, MayPut};
-    ghost use Rattle.mg_memdisk.specs.Volumes.{mem_view, mem_found, mem_recent, mem_open, mem_stands, Pushes, Untouched};
+    ghost use Rattle.mg_disk.specs.Images.{NameSet, NameInDoubt, Appended, AppendFailed, Opened, Stays};
+    ghost use Rattle.mg_memdisk.specs.Counted.{no_calls};
+    ghost use Rattle.mg_memdisk.specs.Volumes.{mem_view, mem_open, mem_stands, mem_calls, IsEmpty, Pushes, Untouched};
     ghost use Rattle.mg_memdisk.specs.Events.{nothing, is_file, value_bytes};
 
     /// An empty volume whose calls with these numbers, from 1, fail.
     pub fn new(alloc: Global, failing: Vec<u64>) -> MemVolume
-        ensures found { mem_found result ≡ nothing }
-        ensures recent { mem_recent result ≡ [] }
+        ensures empty { IsEmpty (mem_view result) }
+        ensures calls { mem_calls result ≡ no_calls failing }
     {
         MemVolume {
             events: Vec::new(alloc),
@@ -59,7 +58,7 @@ impl MemVolume {
 
     /// How many of its calls failed.
     pub fn faults(&self) -> FaultCount
-        ensures { result ≡ self.now.counted.faults }
+        ensures { result ≡ (mem_calls self.now).faults }
     {
         self.counted.faults
     }
@@ -69,7 +68,7 @@ impl MemVolume {
         ensures opened { Opened (mem_view self.old) (mem_view self.new) }
         ensures closed { (name : Name) → mem_open self.new name ≡ false }
         ensures start { (mem_view self.new).moment ≡ 0 }
-        ensures counted { self.new.counted ≡ self.old.counted }
+        ensures calls { mem_calls self.new ≡ mem_calls self.old }
     {
         self.settled = self.events.len();
     }
@@ -78,29 +77,14 @@ impl MemVolume {
     fn push(&mut self, event: Event) -> Result<(), DiskError>
         ensures pushed { OnOk result (Pushes event self.old self.new) }
         ensures same { OnErr result (Untouched self.old self.new) }
-        ensures counted { self.new.counted ≡ self.old.counted }
+        ensures calls { mem_calls self.new ≡ mem_calls self.old }
         ensures memory { IsErrOf result DiskError.Failed → ⊥ }
     {
         self.events.push(event)?;
         Ok(())
     }
 
-    // Keeps that the name stands for these bytes or for nothing; where the call fails, that a crash may show it.
-    fn keep_put(&mut self, name: Name, value: Option<Arc<Vec<u8>>>) -> Result<(), DiskError>
-        ensures put { OnOk result (Pushes (Put name value) self.old self.new) }
-        ensures doubt { OnErr result (Untouched self.old self.new ⊎ Pushes (MayPut name value) self.old self.new) }
-        ensures cause { HasCause DiskError.Failed self.old.counted.faults self.new.counted.faults result }
-    {
-        match self.counted.count() {
-            Ok(()) => self.push(Event::Put(name, value)),
-            Err(failed) => {
-                self.push(Event::MayPut(name, value))?;
-                Err(failed)
-            }
-        }
-    }
-
-    // Lets the name stand for these bytes or for nothing; where the call fails, only a crash may show it.
+    // Lets the name stand for these bytes or for nothing.
     fn put(&mut self, name: Name, value: Option<Arc<Vec<u8>>>) -> Result<(), DiskError>
         ensures set { OnOk result (NameSet name (value_bytes value) (mem_view self.old) (mem_view self.new)) }
         ensures doubt { OnErr result (NameInDoubt name (value_bytes value) (mem_view self.old) (mem_view self.new)) }
@@ -109,9 +93,21 @@ impl MemVolume {
         ensures writing { (other : Name) → other ≢ name → mem_open self.new other ≡ mem_open self.old other }
         ensures stands { (other : Name) → other ≢ name → mem_stands self.new other ≡ mem_stands self.old other }
         ensures still { OnErr result (mem_stands self.new name ≡ mem_stands self.old name) }
-        ensures cause { HasCause DiskError.Failed self.old.counted.faults self.new.counted.faults result }
+        ensures calls { mem_calls self.new ≡ mem_calls self.old }
+        ensures memory { IsErrOf result DiskError.Failed → ⊥ }
     {
-        self.keep_put(name, value)
+        self.push(Event::Put(name, value))
+    }
+
+    // Keeps that a crash may let the name stand for these bytes or for nothing, where there is memory for that.
+    fn doubt(&mut self, name: Name, value: Option<Arc<Vec<u8>>>)
+        ensures doubt { NameInDoubt name (value_bytes value) (mem_view self.old) (mem_view self.new) }
+        ensures file { is_file name ≡ true → mem_open self.new name ≡ mem_open self.old name }
+        ensures writing { (other : Name) → other ≢ name → mem_open self.new other ≡ mem_open self.old other }
+        ensures stands { (other : Name) → mem_stands self.new other ≡ mem_stands self.old other }
+        ensures calls { mem_calls self.new ≡ mem_calls self.old }
+    {
+        let _ = self.push(Event::MayPut(name, value));
     }
 
     // Puts bytes behind a log's.
@@ -121,10 +117,21 @@ impl MemVolume {
         ensures stays { OnErr result (Stays (mem_view self.old) (mem_view self.new)) }
         ensures writing { (other : Name) → mem_open self.new other ≡ mem_open self.old other }
         ensures stands { (other : Name) → mem_stands self.new other ≡ mem_stands self.old other }
-        ensures counted { self.new.counted ≡ self.old.counted }
+        ensures calls { mem_calls self.new ≡ mem_calls self.old }
         ensures memory { IsErrOf result DiskError.Failed → ⊥ }
     {
         self.push(Event::Append(name, bytes.to_vec(alloc)?))
+    }
+
+    // Puts the first half of the bytes behind a log's, or nothing where memory is short.
+    fn put_half_behind(&mut self, alloc: Global, name: Name, bytes: &[u8])
+        requires { mem_open self.old name ≡ true }
+        ensures part { AppendFailed name bytes.now (mem_view self.old) (mem_view self.new) }
+        ensures writing { (other : Name) → mem_open self.new other ≡ mem_open self.old other }
+        ensures stands { (other : Name) → mem_stands self.new other ≡ mem_stands self.old other }
+        ensures calls { mem_calls self.new ≡ mem_calls self.old }
+    {
+        let _ = self.put_behind(alloc, name, &bytes[..bytes.len() / 2]);
     }
 
     // The bytes of the file under a name.
@@ -152,12 +159,20 @@ impl MemVolume {
     }
 }
 
+// Each call that has `&mut self` is counted, and fails exactly where its number is listed.
 impl Volume for MemVolume {
-    ghost use Rattle.std.specs.Prelude.{◌≡◌, Bool, true, ℕ, List, Option, refl};
+    ghost use Rattle.std.specs.Prelude.{◌≡◌, ◌≢◌, ◌≤◌, ◌↔◌, Bool, true, ℕ, List, [], Option, None, Some, length, IfOk, OnOk, OnErr, IfSome, IsSome, IsErrOf, IsTrue, refl};
+    ghost use Rattle.std.specs.List.{Contains};
+    ghost use Rattle.std.specs.List.Sorted.{IsStrictlySortedBy};
+    ghost use Rattle.mg_faults.specs.Causes.{HasCause};
     ghost use Rattle.mg_disk.specs.declared.names.Name.{Name};
+    ghost use Rattle.mg_disk.specs.Files.{ReadsAt, found_bytes};
+    ghost use Rattle.mg_disk.specs.Images.{Stays, NameSet, NameInDoubt, Appended, AppendFailed, Synced};
+    ghost use Rattle.mg_disk.specs.Names.{IsFileName, IsLogName};
     ghost use Rattle.mg_memdisk.specs.declared.volumes.MemVolume.{MemVolume};
+    ghost use Rattle.mg_memdisk.specs.Counted.{next_fails, CountedBy};
     ghost use Rattle.mg_memdisk.specs.Files.{sealed_bytes};
-    ghost use Rattle.mg_memdisk.specs.Volumes.{mem_view, mem_open, mem_stands};
+    ghost use Rattle.mg_memdisk.specs.Volumes.{mem_view, mem_open, mem_stands, mem_calls, mem_log_name};
     ghost use Rattle.mg_memdisk.specs.Laws.{view_counts_now, view_only_now};
 
     type Port = MemFiles;
@@ -168,20 +183,39 @@ impl Volume for MemVolume {
 
     ghost view = { mem_view };
 
-    ghost log_name = { λ log. log.name };
+    ghost log_name = { mem_log_name };
 
-    ghost in_writing = { λ volume log. mem_open volume log.name };
+    ghost in_writing = { λ volume log. mem_open volume (mem_log_name log) };
 
     ghost stands_for = { mem_stands };
 
-    ghost faults = { λ volume. volume.counted.faults };
+    ghost faults = { λ volume. (mem_calls volume).faults };
 
-    fn names(&mut self, alloc: Global) -> Result<Vec<Name>, DiskError> {
+    fn names(&mut self, alloc: Global) -> Result<Vec<Name>, DiskError>
+        ensures order { IfOk result (λ names. IsStrictlySortedBy ⟦<Name as Ord>⟧.cmp names.items) }
+        ensures all { IfOk result (λ names. (name : Name) → Contains names.items name ↔ IsSome ((mem_view self.old).contents name)) }
+        ensures stays { Stays (mem_view self.old) (mem_view self.new) }
+        ensures writing { (other : Name) → mem_open self.new other ≡ mem_open self.old other }
+        ensures standing { (other : Name) → mem_stands self.new other ≡ mem_stands self.old other }
+        ensures cause { HasCause DiskError.Failed (mem_calls self.old).faults (mem_calls self.new).faults result }
+        ensures counted { CountedBy (mem_calls self.old) (mem_calls self.new) }
+        ensures fails { IsErrOf result DiskError.Failed ↔ IsTrue (next_fails (mem_calls self.old)) }
+    {
         self.counted.count()?;
         Ok(self.all_names(alloc)?)
     }
 
-    fn find_file(&mut self, _: Global, name: Name) -> Result<Option<MemSealed>, DiskError> {
+    fn find_file(&mut self, _: Global, name: Name) -> Result<Option<MemSealed>, DiskError>
+        requires { IsFileName name }
+        ensures found { IfOk result (λ found. found_bytes (λ file. Some (sealed_bytes file)) found ≡ (mem_view self.old).contents name) }
+        ensures given { IfOk result (λ found. IfSome found (λ file. mem_stands self.new name ≡ Some (sealed_bytes file))) }
+        ensures stays { Stays (mem_view self.old) (mem_view self.new) }
+        ensures writing { (other : Name) → mem_open self.new other ≡ mem_open self.old other }
+        ensures standing { (other : Name) → mem_stands self.new other ≡ mem_stands self.old other }
+        ensures cause { HasCause DiskError.Failed (mem_calls self.old).faults (mem_calls self.new).faults result }
+        ensures counted { CountedBy (mem_calls self.old) (mem_calls self.new) }
+        ensures fails { IsErrOf result DiskError.Failed ↔ IsTrue (next_fails (mem_calls self.old)) }
+    {
         self.counted.count()?;
         match self.file(name) {
             Some(bytes) => Ok(Some(MemSealed {
@@ -191,42 +225,129 @@ impl Volume for MemVolume {
         }
     }
 
-    fn adopt(&mut self, _: Global, name: Name, file: &MemSealed) -> Result<(), DiskError> {
-        let bytes = Arc::try_clone(&file.bytes)?;
-        self.put(name, Some(bytes))
-    }
-
-    fn remove(&mut self, _: Global, name: Name) -> Result<(), DiskError> {
-        self.put(name, None)
-    }
-
-    fn holds(&self, name: Name, file: &MemSealed) -> bool {
-        is_file_name(name) && has_bytes(self.file(name), &file.bytes)
-    }
-
-    fn new_log(&mut self, alloc: Global, name: Name) -> Result<MemLog, DiskError> {
-        let empty = Arc::new(alloc, Vec::new(alloc))?;
-        self.put(name, Some(empty))?;
-        Ok(MemLog { name })
-    }
-
-    // A call that fails has appended the first half.
-    fn append(&mut self, alloc: Global, log: &mut MemLog, bytes: &[u8]) -> Result<(), DiskError> {
+    fn adopt(&mut self, _: Global, name: Name, file: &MemSealed) -> Result<(), DiskError>
+        requires { IsFileName name }
+        ensures set { OnOk result (NameSet name (Some (sealed_bytes file.now)) (mem_view self.old) (mem_view self.new)) }
+        ensures doubt { OnErr result (NameInDoubt name (Some (sealed_bytes file.now)) (mem_view self.old) (mem_view self.new)) }
+        ensures writing { (other : Name) → mem_open self.new other ≡ mem_open self.old other }
+        ensures standing { (other : Name) → other ≢ name → mem_stands self.new other ≡ mem_stands self.old other }
+        ensures given { OnOk result (mem_stands self.new name ≡ Some (sealed_bytes file.now)) }
+        ensures cause { HasCause DiskError.Failed (mem_calls self.old).faults (mem_calls self.new).faults result }
+        ensures counted { CountedBy (mem_calls self.old) (mem_calls self.new) }
+        ensures fails { IsErrOf result DiskError.Failed ↔ IsTrue (next_fails (mem_calls self.old)) }
+    {
         match self.counted.count() {
-            Ok(()) => self.put_behind(alloc, log.name, bytes),
+            Ok(()) => self.put(name, Some(Arc::try_clone(&file.bytes)?)),
             Err(failed) => {
-                self.put_behind(alloc, log.name, &bytes[..bytes.len() / 2])?;
+                if let Ok(bytes) = Arc::try_clone(&file.bytes) {
+                    self.doubt(name, Some(bytes));
+                }
                 Err(failed)
             }
         }
     }
 
-    fn sync(&mut self, _: Global, log: &mut MemLog) -> Result<(), DiskError> {
+    fn remove(&mut self, _: Global, name: Name) -> Result<(), DiskError>
+        ensures set { OnOk result (NameSet name None (mem_view self.old) (mem_view self.new)) }
+        ensures doubt { OnErr result (NameInDoubt name None (mem_view self.old) (mem_view self.new)) }
+        ensures writing { (other : Name) → other ≢ name → mem_open self.new other ≡ mem_open self.old other }
+        ensures standing { (other : Name) → other ≢ name → mem_stands self.new other ≡ mem_stands self.old other }
+        ensures still { OnErr result (mem_stands self.new name ≡ mem_stands self.old name) }
+        ensures cause { HasCause DiskError.Failed (mem_calls self.old).faults (mem_calls self.new).faults result }
+        ensures counted { CountedBy (mem_calls self.old) (mem_calls self.new) }
+        ensures fails { IsErrOf result DiskError.Failed ↔ IsTrue (next_fails (mem_calls self.old)) }
+    {
+        match self.counted.count() {
+            Ok(()) => self.put(name, None),
+            Err(failed) => {
+                self.doubt(name, None);
+                Err(failed)
+            }
+        }
+    }
+
+    fn holds(&self, name: Name, file: &MemSealed) -> bool
+        ensures { IsTrue result ↔ (mem_stands self.now name ≡ Some (sealed_bytes file.now)) }
+    {
+        is_file_name(name) && has_bytes(self.file(name), &file.bytes)
+    }
+
+    fn new_log(&mut self, alloc: Global, name: Name) -> Result<MemLog, DiskError>
+        requires { IsLogName name }
+        ensures set { OnOk result (NameSet name (Some []) (mem_view self.old) (mem_view self.new)) }
+        ensures doubt { OnErr result (NameInDoubt name (Some []) (mem_view self.old) (mem_view self.new)) }
+        ensures writing { (other : Name) → other ≢ name → mem_open self.new other ≡ mem_open self.old other }
+        ensures standing { (other : Name) → other ≢ name → mem_stands self.new other ≡ mem_stands self.old other }
+        ensures named { IfOk result (λ log. mem_log_name log ≡ name) }
+        ensures opens { IfOk result (λ log. IsTrue (mem_open self.new (mem_log_name log))) }
+        ensures cause { HasCause DiskError.Failed (mem_calls self.old).faults (mem_calls self.new).faults result }
+        ensures counted { CountedBy (mem_calls self.old) (mem_calls self.new) }
+        ensures fails { IsErrOf result DiskError.Failed ↔ IsTrue (next_fails (mem_calls self.old)) }
+    {
+        match self.counted.count() {
+            Ok(()) => {
+                let empty = Arc::new(alloc, Vec::new(alloc))?;
+                self.put(name, Some(empty))?;
+                Ok(MemLog { name })
+            }
+            Err(failed) => {
+                if let Ok(empty) = Arc::new(alloc, Vec::new(alloc)) {
+                    self.doubt(name, Some(empty));
+                }
+                Err(failed)
+            }
+        }
+    }
+
+    // A call that fails has appended the first half, or nothing where memory is short.
+    fn append(&mut self, alloc: Global, log: &mut MemLog, bytes: &[u8]) -> Result<(), DiskError>
+        requires { IsTrue (mem_open self.old (mem_log_name log.old)) }
+        ensures appended { OnOk result (Appended (mem_log_name log.old) bytes.now (mem_view self.old) (mem_view self.new)) }
+        ensures part { OnErr result (AppendFailed (mem_log_name log.old) bytes.now (mem_view self.old) (mem_view self.new)) }
+        ensures named { mem_log_name log.new ≡ mem_log_name log.old }
+        ensures open { IsTrue (mem_open self.new (mem_log_name log.new)) }
+        ensures writing { (other : Name) → mem_open self.new other ≡ mem_open self.old other }
+        ensures standing { (other : Name) → mem_stands self.new other ≡ mem_stands self.old other }
+        ensures cause { HasCause DiskError.Failed (mem_calls self.old).faults (mem_calls self.new).faults result }
+        ensures counted { CountedBy (mem_calls self.old) (mem_calls self.new) }
+        ensures fails { IsErrOf result DiskError.Failed ↔ IsTrue (next_fails (mem_calls self.old)) }
+    {
+        match self.counted.count() {
+            Ok(()) => self.put_behind(alloc, log.name, bytes),
+            Err(failed) => {
+                self.put_half_behind(alloc, log.name, bytes);
+                Err(failed)
+            }
+        }
+    }
+
+    fn sync(&mut self, _: Global, log: &mut MemLog) -> Result<(), DiskError>
+        requires { IsTrue (mem_open self.old (mem_log_name log.old)) }
+        ensures synced { OnOk result (Synced (mem_log_name log.old) (mem_view self.old) (mem_view self.new)) }
+        ensures stays { OnErr result (Stays (mem_view self.old) (mem_view self.new)) }
+        ensures named { mem_log_name log.new ≡ mem_log_name log.old }
+        ensures open { IsTrue (mem_open self.new (mem_log_name log.new)) }
+        ensures writing { (other : Name) → mem_open self.new other ≡ mem_open self.old other }
+        ensures standing { (other : Name) → mem_stands self.new other ≡ mem_stands self.old other }
+        ensures cause { HasCause DiskError.Failed (mem_calls self.old).faults (mem_calls self.new).faults result }
+        ensures counted { CountedBy (mem_calls self.old) (mem_calls self.new) }
+        ensures fails { IsErrOf result DiskError.Failed ↔ IsTrue (next_fails (mem_calls self.old)) }
+    {
         self.counted.count()?;
         self.push(Event::Sync(log.name))
     }
 
-    fn log_len(&mut self, alloc: Global, name: Name) -> Result<u64, DiskError> {
+    fn log_len(&mut self, alloc: Global, name: Name) -> Result<u64, DiskError>
+        requires kind { IsLogName name }
+        requires there { IsSome ((mem_view self.old).contents name) }
+        ensures len { IfOk result (λ len. IfSome ((mem_view self.old).contents name) (λ bytes. len ≡ length bytes)) }
+        ensures stays { Stays (mem_view self.old) (mem_view self.new) }
+        ensures writing { (other : Name) → mem_open self.new other ≡ mem_open self.old other }
+        ensures standing { (other : Name) → mem_stands self.new other ≡ mem_stands self.old other }
+        ensures cause { HasCause DiskError.Failed (mem_calls self.old).faults (mem_calls self.new).faults result }
+        ensures counted { CountedBy (mem_calls self.old) (mem_calls self.new) }
+        ensures fails { IsErrOf result DiskError.Failed ↔ IsTrue (next_fails (mem_calls self.old)) }
+    {
         self.counted.count()?;
         Ok(self.log(alloc, name)?.len() as u64)
     }
@@ -237,7 +358,18 @@ impl Volume for MemVolume {
         name: Name,
         at: u64,
         buf: &mut [u8],
-    ) -> Result<usize, DiskError> {
+    ) -> Result<usize, DiskError>
+        requires kind { IsLogName name }
+        requires there { IsSome ((mem_view self.old).contents name) }
+        ensures bound { IfOk result (λ count. count ≤ length buf.old) }
+        ensures bytes { IfOk result (λ count. IfSome ((mem_view self.old).contents name) (λ bytes. ReadsAt bytes at buf.old buf.new count)) }
+        ensures stays { Stays (mem_view self.old) (mem_view self.new) }
+        ensures writing { (other : Name) → mem_open self.new other ≡ mem_open self.old other }
+        ensures standing { (other : Name) → mem_stands self.new other ≡ mem_stands self.old other }
+        ensures cause { HasCause DiskError.Failed (mem_calls self.old).faults (mem_calls self.new).faults result }
+        ensures counted { CountedBy (mem_calls self.old) (mem_calls self.new) }
+        ensures fails { IsErrOf result DiskError.Failed ↔ IsTrue (next_fails (mem_calls self.old)) }
+    {
         self.counted.count()?;
         let log = self.log(alloc, name)?;
         Ok(read_at(&log, at, buf))

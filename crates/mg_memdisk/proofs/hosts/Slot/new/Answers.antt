@@ -1,0 +1,13 @@
+use Rattle.std.proofs.Common.{refl, ap, ◌∙◌}
+use Rattle.mg_memdisk.specs.declared.counted.Counted.{Counted}
+use Rattle.mg_memdisk.proofs.hosts.Slot.new.Goals as goal
+
+pub returns : goal.returns
+returns c = record {
+  vol = c.new-2.result;
+  inside = refl;
+  is_new = record {
+    empty = c.new-2.ensures.empty;
+    failing = ap (λ (calls : Counted). calls.failing.items) c.new-2.ensures.calls ∙ c.new.ensures.items;
+  };
+}

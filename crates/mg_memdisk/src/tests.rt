@@ -1,0 +1,156 @@
+//! Runs through each device, by functions that are generic over it.
+
+ghost use Rattle.std.specs.Prelude.{◌≡◌, false};
+ghost use Rattle.mg_disk.specs.Names.{IsFileName, IsLogName};
+
+use crate::{MemFiles, MemHost, MemVolume};
+use mg_disk::{DiskError, Files, Host, Name, Volume, append_and_sync, append_behind, read_found};
+use std::alloc::Global;
+use std::test::Fail;
+
+// Writes a file, and reads its end and its length through a share: the length, the count, and whether the two are the same
+// and may be kept by a cache.
+fn write_and_read<F: Files>(
+    alloc: Global,
+    port: &mut F,
+    bytes: &[u8],
+    buf: &mut [u8],
+) -> Result<(u64, usize, bool, bool), DiskError> {
+    let mut draft = port.fresh(alloc)?;
+    port.append(alloc, &mut draft, bytes)?;
+    let file = port.seal(alloc, draft)?;
+    let again = port.share(alloc, &file)?;
+    let len = port.len(alloc, &again)?;
+    let taken = port.read(alloc, &file, 5, buf)?;
+    Ok((len, taken, port.same(&file, &again), port.keeps(&file)))
+}
+
+// Adopts an empty file under a name that is free, and finds it there.
+fn adopt_and_find<V: Volume>(
+    alloc: Global,
+    volume: &mut V,
+    port: &mut V::Port,
+    name: Name,
+) -> Result<bool, DiskError>
+    requires { IsFileName name }
+{
+    if volume.names(alloc)?.contains(&name) {
+        return Ok(false);
+    }
+    let draft = port.fresh(alloc)?;
+    let file = port.seal(alloc, draft)?;
+    volume.adopt(alloc, name, &file)?;
+    match volume.find_file(alloc, name)? {
+        Some(found) => Ok(volume.holds(name, &found)),
+        None => Ok(false),
+    }
+}
+
+// Makes a log under a name that is free, appends to it, syncs it and appends more.
+fn store<V: Volume>(alloc: Global, volume: &mut V, name: Name) -> Result<bool, DiskError>
+    requires { IsLogName name }
+{
+    if volume.names(alloc)?.contains(&name) {
+        return Ok(false);
+    }
+    let mut log = volume.new_log(alloc, name)?;
+    append_and_sync(alloc, volume, &mut log, b"synced")?;
+    append_behind(alloc, volume, &mut log, b", not")?;
+    Ok(true)
+}
+
+// The length of a log, if it is there.
+fn len_of<V: Volume>(alloc: Global, volume: &mut V, name: Name) -> Result<Option<u64>, DiskError>
+    requires { IsLogName name }
+{
+    if !volume.names(alloc)?.contains(&name) {
+        return Ok(None);
+    }
+    Ok(Some(volume.log_len(alloc, name)?))
+}
+
+// Adopts a file, takes its name away again, and stores a log.
+fn fill<V: Volume>(
+    alloc: Global,
+    volume: &mut V,
+    port: &mut V::Port,
+    file: Name,
+    log: Name,
+) -> Result<bool, DiskError>
+    requires file { IsFileName file }
+    requires log { IsLogName log }
+{
+    let found = adopt_and_find(alloc, volume, port, file)?;
+    volume.remove(alloc, file)?;
+    let stored = store(alloc, volume, log)?;
+    Ok(found && stored && !volume.names(alloc)?.contains(&file))
+}
+
+// Borrows volume 3 and a port of a host without settings, fills the volume, and gives both back.
+fn fill_third<H: Host>(
+    alloc: Global,
+    host: &mut H,
+    file: Name,
+    log: Name,
+) -> Result<bool, DiskError>
+    requires file { IsFileName file }
+    requires log { IsLogName log }
+    requires here { (H.state host.old).out 3 ≡ false }
+    ensures { (H.state host.new).out 3 ≡ false }
+{
+    if host.settings(alloc)?.is_some() {
+        return Ok(false);
+    }
+    let mut port = host.files(alloc)?;
+    let mut volume = host.volume(alloc, 3)?;
+    let filled = fill(alloc, &mut volume, &mut port, file, log);
+    host.give_back(3, volume);
+    host.give_port(port);
+    filled
+}
+
+#[test]
+fn a_file_is_written_and_read(rt: HostRuntime) -> Result<(), Fail> {
+    let alloc = rt.alloc();
+    let mut port = MemFiles::new(Vec::new(alloc));
+    let mut buf = [0; 4];
+    let answer = write_and_read(alloc, &mut port, b"segment", &mut buf)?;
+    assert_eq!(rt; answer, (7, 2, true, true));
+    assert_eq!(rt; buf, [b'n', b't', 0, 0]);
+    Ok(())
+}
+
+#[test]
+fn a_host_gives_back_what_was_stored(rt: HostRuntime) -> Result<(), Fail> {
+    let alloc = rt.alloc();
+    let file = Name { kind: 2, number: 7 };
+    let log = Name { kind: 5, number: 1 };
+    let mut host = MemHost::new(alloc, None);
+    assert_eq!(rt; fill_third(alloc, &mut host, file, log), Ok(true));
+    let mut buf = [0; 12];
+    assert_eq!(rt;
+        read_found(alloc, &mut host, 3, log, &mut buf),
+        Ok(Some(11))
+    );
+    assert_eq!(rt; buf, *b"synced, not\0");
+    Ok(())
+}
+
+#[test]
+fn the_listed_call_fails(rt: HostRuntime) -> Result<(), Fail> {
+    let alloc = rt.alloc();
+    let mut port = MemFiles::new([2].to_vec(alloc)?);
+    let mut buf = [0; 4];
+    assert_eq!(rt;
+        write_and_read(alloc, &mut port, b"segment", &mut buf),
+        Err(DiskError::Failed)
+    );
+    assert_eq!(rt; port.faults().get(), 1);
+    // the fifth call is the second append, which puts the first half of its five bytes behind the six that are there
+    let mut volume = MemVolume::new(alloc, [5].to_vec(alloc)?);
+    let log = Name { kind: 5, number: 1 };
+    assert_eq!(rt; store(alloc, &mut volume, log), Err(DiskError::Failed));
+    assert_eq!(rt; len_of(alloc, &mut volume, log), Ok(Some(8)));
+    assert_eq!(rt; volume.faults().get(), 1);
+    Ok(())
+}
