@@ -61,7 +61,7 @@ decimal_is_decimal n small =
     accepts k c all long one e = grind (arith, nat_tests)
 
 -- what the definition answers for decimal digits
-number_decimal : (text : List ℕ) → is_decimal text ≡ true → digits_value 10 text < 2 ^ 64 → number_of text ≡ Some (digits_value 10 text)
+pub number_decimal : (text : List ℕ) → is_decimal text ≡ true → digits_value 10 text < 2 ^ 64 → number_of text ≡ Some (digits_value 10 text)
 unfolding number_of
 number_decimal text d small = by_tests (bytes_eq (decimal (digits_value 10 text)) text) (nat_lt (digits_value 10 text) (2 ^ 64)) (ap (λ (ds : List ℕ). bytes_eq ds text) (decimal_read text d small) ∙ nat_list_eq_equiv.refl text) (lt-ltb (digits_value 10 text) (2 ^ 64) small)
   where

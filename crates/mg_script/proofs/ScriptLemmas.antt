@@ -20,11 +20,11 @@ with_front front read = read >>= λ lines. Ok (front ++ lines)
 abbrev pub rest_of : ℕ → ℕ → List ℕ → Result (List Line) (ℕ × Why)
 rest_of parts n bytes = lines_of parts n (slice_split (λ b. b == 10) bytes)
 
-at_least_one : (bytes : List ℕ) → 0 < length (slice_split (λ b. b == 10) bytes)
+pub at_least_one : (bytes : List ℕ) → 0 < length (slice_split (λ b. b == 10) bytes)
 at_least_one bytes = omega (arith, length-slice_split (λ b. b == 10) bytes)
 
 -- a piece with more pieces behind it
-first_of : (parts n : ℕ) (piece : List ℕ) (pieces : List (List ℕ)) → 0 < length pieces
+pub first_of : (parts n : ℕ) (piece : List ℕ) (pieces : List (List ℕ)) → 0 < length pieces
     → lines_of parts n (piece ∷ pieces) ≡ (numbered n (line_of parts (fields_of piece)) >>= λ line. lines_of parts (n + 1) pieces >>= λ lines. Ok (line ∷ lines))
 unfolding lines_of
 first_of parts n piece [] l = absurd (omega arith)
@@ -60,7 +60,7 @@ fails_at parts n front rest behind piece (errors.Wrong why) total cut read e so_
     ∙ ap (λ k. Err (k, why)) (sym e)
 
 -- the last piece
-last_of : (parts n : ℕ) (rest : List ℕ) → lines_of parts n (rest ∷ []) ≡ if length rest == 0 then Ok [] else Err (n, Ending)
+pub last_of : (parts n : ℕ) (rest : List ℕ) → lines_of parts n (rest ∷ []) ≡ if length rest == 0 then Ok [] else Err (n, Ending)
 unfolding lines_of
 last_of parts n rest = refl
 

@@ -7,7 +7,7 @@ use Rattle.std.proofs.lemmas.Bool.{eqb-true}
 use Rattle.mg_script.specs.Tokens.{BeginsSpelling, bytes_spelled, escaped, is_plain, plain_then}
 
 -- a text that begins with % and two bytes more
-spelled_escape : (text : List ℕ) → 3 ≤ length text → get_or text 0 0 ≡ 37
+pub spelled_escape : (text : List ℕ) → 3 ≤ length text → get_or text 0 0 ≡ 37
     → bytes_spelled text ≡ option_and_then (λ b. option_map (λ bytes. b ∷ bytes) (bytes_spelled (drop 3 text))) (escaped (get_or text 1 0) (get_or text 2 0))
 unfolding bytes_spelled
 spelled_escape [] l e = absurd (omega arith)
@@ -16,7 +16,7 @@ spelled_escape (c ∷ d ∷ []) l e = absurd (omega arith)
 spelled_escape (c ∷ d ∷ g ∷ rest) l e = rw e refl
 
 -- another text
-spelled_plain : (text : List ℕ) → 0 < length text → (3 ≤ length text → get_or text 0 0 ≢ 37) → bytes_spelled text ≡ plain_then (get_or text 0 0) (bytes_spelled (drop 1 text))
+pub spelled_plain : (text : List ℕ) → 0 < length text → (3 ≤ length text → get_or text 0 0 ≢ 37) → bytes_spelled text ≡ plain_then (get_or text 0 0) (bytes_spelled (drop 1 text))
 unfolding bytes_spelled
 spelled_plain [] l e = absurd (omega arith)
 spelled_plain (c ∷ []) l e = refl

@@ -1,4 +1,5 @@
 pub mod Tokens
 pub mod Fields
 pub mod Script
+pub mod Lines
 pub mod Transcript

@@ -2,15 +2,17 @@
 #![tactic(auto)]
 
 mod fields;
+mod laws;
 mod messages;
 mod pieces;
 mod script;
 mod tokens;
 mod transcript;
 
+pub use laws::scripts_have_one_spelling;
 pub use messages::fault_text;
 pub use script::{Line, read_script};
-pub use transcript::{put_answer, put_end};
+pub use transcript::{put_answer, put_end, put_line};
 
 #[cfg(test)]
 mod tests;

@@ -2,6 +2,7 @@
 
 ghost use Rattle.std.specs.Prelude.{◌≡◌, ◌≤◌, length, IfErr, IfOk, Ok};
 ghost use Rattle.std.specs.List.{All};
+ghost use Rattle.mg_script.specs.Lines.{script_text};
 ghost use Rattle.mg_script.specs.Script.{fields_of, Gives, IsLine, line_of, located, Refuses, script_of};
 
 use crate::fields::{Fields, LineError};
@@ -28,6 +29,7 @@ const SHORTEST_LINE: usize = 9;
 /// field that is missing or wrong.
 pub fn read_script(alloc: Global, bytes: &[u8], parts: u16) -> Result<Vec<Line>, Fault>
     ensures ok { IfOk result (λ lines. script_of parts bytes.now ≡ Ok lines.items) }
+    ensures spelled { IfOk result (λ lines. bytes.now ≡ script_text lines.items) }
     ensures err { IfErr result (λ fault. Refuses fault (script_of parts bytes.now)) }
     ensures lines { IfOk result (λ lines. All (IsLine parts) lines.items) }
     ensures few { IfOk result (λ lines. length lines.items ≤ length bytes.now) }

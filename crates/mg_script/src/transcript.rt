@@ -1,13 +1,16 @@
 //! A transcript: a line for each answer, and an end line for each partition.
 
-ghost use Rattle.std.specs.Prelude.{◌≡◌, ◌<◌, ◌++◌, decimal, IfErr, IsOkUnless, OnOk};
+ghost use Rattle.std.specs.Prelude.{◌≡◌, ◌<◌, ◌∷◌, ◌++◌, decimal, IfErr, IsOkUnless, OnOk};
 ghost use Rattle.std.specs.List.{flat_map};
+ghost use Rattle.mg_script.specs.Lines.{call_fields, line_parts, line_text, verb_word};
+ghost use Rattle.mg_script.specs.Script.{IsSpoken};
 ghost use Rattle.mg_script.specs.Tokens.{byte_text, hex_digit, token_of};
 ghost use Rattle.mg_script.specs.Transcript.{answer_line, change_text, end_line, fault_word, field, item_text, IsLineFault, mark_text, place_text, reply_text, result_text};
 
+use crate::script::Line;
 use crate::tokens::is_plain_byte;
 use itoa::Buffer;
-use mg_model::{Answer, Doc, Fault, Item, Key, Reply};
+use mg_model::{Answer, Call, Doc, Fault, Item, Key, Reply};
 use std::alloc::AllocError;
 
 pub fn put(out: &mut Vec<u8>, bytes: &[u8]) -> Result<(), AllocError>
@@ -239,4 +242,68 @@ pub fn put_end(
     put_field(out, b" ", epoch)?;
     put(out, b"\n")?;
     Ok(())
+}
+
+/// Appends the line of a call. After an error, the only one being want of memory, a front of the line may have
+/// been appended.
+pub fn put_line(line: &Line, out: &mut Vec<u8>) -> Result<(), Fault>
+    requires { IsSpoken line.now.call }
+    ensures ok { OnOk result (out.new.items ≡ out.old.items ++ line_text line.now) }
+    ensures err { IsOkUnless result Fault.NoMemory }
+{
+    put_parts(out, line)?;
+    Ok(())
+}
+
+fn put_parts(out: &mut Vec<u8>, line: &Line) -> Result<(), AllocError>
+    ensures { OnOk result (out.new.items ≡ out.old.items ++ line_parts line.now) }
+{
+    put_number(out, u64::from(line.client))?;
+    put(out, b" ")?;
+    put(out, verb_of_call(&line.call))?;
+    put(out, b" ")?;
+    put_number(out, u64::from(line.part))?;
+    put_fields(out, &line.call)?;
+    put(out, b"\n")
+}
+
+fn verb_of_call(call: &Call) -> &'static [u8]
+    ensures { result.now ≡ verb_word call.now }
+{
+    match call {
+        Call::Set { .. } => b"set",
+        Call::Del { .. } => b"del",
+        Call::Get { .. } => b"get",
+        Call::Feed { .. } => b"feed",
+        Call::Stats => b"stats",
+        _ => b"",
+    }
+}
+
+/// Appends the fields behind the partition, each behind a space.
+fn put_fields(out: &mut Vec<u8>, call: &Call) -> Result<(), AllocError>
+    ensures { OnOk result (out.new.items ≡ out.old.items ++ flat_map (λ field. 32 ∷ field) (call_fields call.now)) }
+{
+    match call {
+        Call::Set { key, doc } => {
+            put(out, b" ")?;
+            put_token(out, key.bytes())?;
+            put(out, b" ")?;
+            put_token(out, doc.bytes())
+        }
+        Call::Del { key } | Call::Get { key } => {
+            put(out, b" ")?;
+            put_token(out, key.bytes())
+        }
+        Call::Feed {
+            epoch,
+            after,
+            limit,
+        } => {
+            put_field(out, b" ", *epoch)?;
+            put_field(out, b" ", *after)?;
+            put_field(out, b" ", u64::from(*limit))
+        }
+        _ => Ok(()),
+    }
 }

@@ -3,6 +3,7 @@ use Rattle.std.proofs.lemmas.List.{nil_from_length, length_push}
 use Rattle.std.proofs.lemmas.List.Elements.{All-push}
 use Rattle.mg_script.specs.Script.{IsLine}
 use Rattle.std.proofs.lemmas.Bool.{eqb-true, eqb-false}
+use Rattle.mg_script.proofs.ScriptLaws.{script_spelled}
 use Rattle.mg_script.proofs.ScriptLemmas.{reads_on, fails_at, unended, all_read}
 use Rattle.mg_script.proofs.script.read_script.Goals as goal
 
@@ -31,3 +32,6 @@ loop-rest-preserved c =
 
 pub returns-clause-ok : goal.returns-clause-ok
 returns-clause-ok c = all_read c.args.parts c.loop-rest.lines.items c.loop-rest.rest.now _ (nil_from_length c.loop-rest.rest.now (eqb-true (length c.loop-rest.rest.now) 0 (sym c.loop-rest-test.ensures))) c.loop-rest.invariant.read
+
+pub returns-clause-spelled : goal.returns-clause-spelled
+returns-clause-spelled c = script_spelled c.args.parts c.args.bytes.now c.loop-rest.lines.items (all_read c.args.parts c.loop-rest.lines.items c.loop-rest.rest.now _ (nil_from_length c.loop-rest.rest.now (eqb-true (length c.loop-rest.rest.now) 0 (sym c.loop-rest-test.ensures))) c.loop-rest.invariant.read)
