@@ -1,5 +1,5 @@
 -- What contracts see of a pass.
-use Rattle.std.specs.Prelude.{◌≡◌, ℕ, ◌<◌, ◌+◌, List, [], ◌∷◌, ◌++◌, Bool, true, false, max}
+use Rattle.std.specs.Prelude.{◌≡◌, ℕ, ◌<◌, ◌+◌, List, [], ◌∷◌, ◌++◌, Bool, true, false, max, length}
 use Rattle.std.specs.Prelude.{refl}
 use Rattle.std.specs.Coded.{Coded, code_by, coded_ℕ, coded_bool, coded_list, coded×}
 use Rattle.atomic_table.specs.Seated.{TableId, table_id_coded}
@@ -56,3 +56,11 @@ module _ {E : Type 0} where
   -- p once it has met q
   abbrev pub met_with : PassState E → PassState E → PassState E
   met_with p q = record p { met = p.met ++ own_calls q; seen = longer p.seen q.seen; faults = max p.faults q.faults; synced = max p.synced q.synced; parts = p.parts + q.parts; next = max p.next q.next }
+
+  -- a pass once its caller made so many calls
+  pub record AfterCalls (turn : TableId) (p q : PassState E) (count : ℕ) : Type 0 where
+    pub waits : IsWaiting turn q
+    pub calls : length q.calls ≡ count
+    pub caller : q.caller ≡ p.caller
+    pub met : q.met ≡ p.met
+    pub parts : q.parts ≡ p.parts
