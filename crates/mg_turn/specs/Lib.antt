@@ -1,0 +1,5 @@
+pub mod History
+pub mod Rule
+pub mod Passes
+pub mod Shown
+pub mod Seats
