@@ -1,6 +1,6 @@
 //! Texts of answers and of faults, compared with the formats' own words.
 
-use crate::{fault_text, put_answer, put_end, read_script};
+use crate::{Line, fault_text, put_answer, put_end, put_line, read_script};
 use mg_items::Items;
 use mg_model::{Answer, Call, Doc, Fault, FileId, Item, Key, Reply, Why};
 use std::alloc::Global;
@@ -163,6 +163,42 @@ fn a_script_is_read(rt: HostRuntime) -> Result<(), Fail> {
                 limit: 1000
             }
         )
+    );
+    Ok(())
+}
+
+#[test]
+fn a_line_is_written(rt: HostRuntime) -> Result<(), Fail> {
+    let alloc = rt.alloc();
+    let mut out = Vec::new(alloc);
+    let set = Line {
+        client: 0,
+        part: 1,
+        call: Call::Set {
+            key: key(alloc, "%")?,
+            doc: doc(alloc, "a b")?,
+        },
+    };
+    put_line(&set, &mut out)?;
+    let feed = Line {
+        client: 15,
+        part: 0,
+        call: Call::Feed {
+            epoch: 1,
+            after: 2,
+            limit: 1000,
+        },
+    };
+    put_line(&feed, &mut out)?;
+    let stats = Line {
+        client: 7,
+        part: 63,
+        call: Call::Stats,
+    };
+    put_line(&stats, &mut out)?;
+    assert_eq!(rt;
+        out.as_slice(),
+        b"0 set 1 %25 a%20b\n15 feed 0 1 2 1000\n7 stats 63\n".as_slice()
     );
     Ok(())
 }
