@@ -1,5 +1,5 @@
 -- How one image that a crash may leave is built, event by event.
-use Rattle.std.specs.Prelude.{◌≡◌, ◌≤◌, ◌⊎◌, ◌&&◌, ℕ, Bool, true, false, Option, Some, List, [], ◌∷◌, ◌++◌, length, take}
+use Rattle.std.specs.Prelude.{◌≡◌, ◌≤◌, ◌⊎◌, ◌&&◌, ℕ, Bool, true, false, Some, List, [], ◌∷◌, ◌++◌, length, take}
 use Rattle.std.specs.List.{fold}
 use Rattle.mg_disk.specs.declared.names.Name.{Name}
 use Rattle.mg_disk.specs.Images.{Image, Sets, Grows, bytes_of}
