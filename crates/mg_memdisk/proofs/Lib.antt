@@ -1,3 +1,4 @@
+pub mod Leaving
 pub mod Listed
 pub mod Pushed
 pub mod Same

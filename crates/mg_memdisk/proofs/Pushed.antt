@@ -93,7 +93,7 @@ pushed_sync found es name = record {
   images = images_push found es (Sync name);
 }
 
-append_sets : (image : Image) (name : Name) (bytes : Vec ℕ Global) (log : List ℕ) → image name ≡ Some log → is_file name ≡ false → Sets name (Some (log ++ bytes.items)) image (held image (Append name bytes))
+pub append_sets : (image : Image) (name : Name) (bytes : Vec ℕ Global) (log : List ℕ) → image name ≡ Some log → is_file name ≡ false → Sets name (Some (log ++ bytes.items)) image (held image (Append name bytes))
 append_sets image name bytes log there kind = record {
   at = ap (λ (t : Bool). cond (t && not (is_file name)) (extended (image name) bytes.items) (image name)) (same_self name) ∙ ap (λ (t : Bool). cond (not t) (extended (image name) bytes.items) (image name)) kind ∙ ap (λ (o : Option (List ℕ)). extended o bytes.items) there;
   elsewhere = λ other ne. ap (λ (t : Bool). cond (t && not (is_file name)) (extended (image other) bytes.items) (image other)) (other_name other name ne);

@@ -1,4 +1,5 @@
 pub mod Counted
+pub mod Crashes
 pub mod Events
 pub mod Files
 pub mod Hosts

@@ -3,6 +3,7 @@
 #![tactic(auto)]
 
 mod counted;
+mod crashes;
 mod events;
 mod files;
 mod hosts;

@@ -47,15 +47,21 @@ fn adopt_and_find<V: Volume>(
 }
 
 // Makes a log under a name that is free, appends to it, syncs it and appends more.
-fn store<V: Volume>(alloc: Global, volume: &mut V, name: Name) -> Result<bool, DiskError>
+fn store<V: Volume>(
+    alloc: Global,
+    volume: &mut V,
+    name: Name,
+    synced: &[u8],
+    behind: &[u8],
+) -> Result<bool, DiskError>
     requires { IsLogName name }
 {
     if volume.names(alloc)?.contains(&name) {
         return Ok(false);
     }
     let mut log = volume.new_log(alloc, name)?;
-    append_and_sync(alloc, volume, &mut log, b"synced")?;
-    append_behind(alloc, volume, &mut log, b", not")?;
+    append_and_sync(alloc, volume, &mut log, synced)?;
+    append_behind(alloc, volume, &mut log, behind)?;
     Ok(true)
 }
 
@@ -67,6 +73,21 @@ fn len_of<V: Volume>(alloc: Global, volume: &mut V, name: Name) -> Result<Option
         return Ok(None);
     }
     Ok(Some(volume.log_len(alloc, name)?))
+}
+
+// Reads a log from the start, if it is there.
+fn read_all<V: Volume>(
+    alloc: Global,
+    volume: &mut V,
+    name: Name,
+    buf: &mut [u8],
+) -> Result<Option<usize>, DiskError>
+    requires { IsLogName name }
+{
+    if !volume.names(alloc)?.contains(&name) {
+        return Ok(None);
+    }
+    Ok(Some(volume.read_log(alloc, name, 0, buf)?))
 }
 
 // Adopts a file, takes its name away again, and stores a log.
@@ -82,7 +103,7 @@ fn fill<V: Volume>(
 {
     let found = adopt_and_find(alloc, volume, port, file)?;
     volume.remove(alloc, file)?;
-    let stored = store(alloc, volume, log)?;
+    let stored = store(alloc, volume, log, b"synced", b", not")?;
     Ok(found && stored && !volume.names(alloc)?.contains(&file))
 }
 
@@ -149,8 +170,30 @@ fn the_listed_call_fails(rt: HostRuntime) -> Result<(), Fail> {
     // the fifth call is the second append, which puts the first half of its five bytes behind the six that are there
     let mut volume = MemVolume::new(alloc, [5].to_vec(alloc)?);
     let log = Name { kind: 5, number: 1 };
-    assert_eq!(rt; store(alloc, &mut volume, log), Err(DiskError::Failed));
+    assert_eq!(rt;
+        store(alloc, &mut volume, log, b"synced", b", not"),
+        Err(DiskError::Failed)
+    );
     assert_eq!(rt; len_of(alloc, &mut volume, log), Ok(Some(8)));
     assert_eq!(rt; volume.faults().get(), 1);
+    Ok(())
+}
+
+// Of a log with one synced byte and one behind it a crash leaves the first byte, and behind it nothing or any byte.
+#[test]
+fn a_crash_leaves_each_allowed_image(rt: HostRuntime) -> Result<(), Fail> {
+    let alloc = rt.alloc();
+    let log = Name { kind: 5, number: 1 };
+    let mut volume = MemVolume::new(alloc, Vec::new(alloc));
+    assert_eq!(rt; store(alloc, &mut volume, log, b"a", b"b"), Ok(true));
+    let mut left = volume.crash(alloc, b"")?;
+    let mut buf = [0; 3];
+    assert_eq!(rt; read_all(alloc, &mut left, log, &mut buf), Ok(Some(1)));
+    assert_eq!(rt; buf, [b'a', 0, 0]);
+    for behind in 0..=255 {
+        let mut left = volume.crash(alloc, &[0, 1, behind, 1, b'c'])?;
+        assert_eq!(rt; read_all(alloc, &mut left, log, &mut buf), Ok(Some(2)));
+        assert_eq!(rt; buf, [b'a', behind, 0]);
+    }
     Ok(())
 }

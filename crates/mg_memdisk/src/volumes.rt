@@ -1,10 +1,12 @@
 //! A volume in memory.
 
-ghost use Rattle.std.specs.Prelude.{◌≡◌, ◌≤◌, ◌↔◌, Some, IsTrue, length};
+ghost use Rattle.std.specs.Prelude.{◌≡◌, ◌≤◌, ◌↔◌, false, Some, IsTrue, length, drop};
 ghost use Rattle.std.specs.Option.{option_copied};
+ghost use Rattle.mg_memdisk.specs.Crashes.{are_open};
 ghost use Rattle.mg_memdisk.specs.Events.{is_file, value_bytes};
 
 use crate::counted::Counted;
+use crate::crashes::image_left;
 use crate::events::Event;
 use crate::files::{MemFiles, MemSealed, read_at};
 use crate::replays::{file_under, log_under, names_in};
@@ -31,6 +33,7 @@ pub struct MemVolume {
     settled: usize,
     counted: Counted,
     ghost within: { settled ≤ length events.items },
+    ghost logs_open: { IsTrue (are_open (λ name. false) (drop settled events.items)) },
 }
 
 impl MemVolume {
@@ -39,8 +42,9 @@ impl MemVolume {
     ghost use Rattle.std.specs.List.{Contains};
     ghost use Rattle.std.specs.List.Sorted.{IsStrictlySortedBy};
     ghost use Rattle.mg_disk.specs.declared.names.Name.{Name};
-    ghost use Rattle.mg_disk.specs.Images.{NameSet, NameInDoubt, Appended, AppendFailed, Opened, Stays};
+    ghost use Rattle.mg_disk.specs.Images.{Image, NameSet, NameInDoubt, Appended, AppendFailed, Opened, Stays};
     ghost use Rattle.mg_memdisk.specs.Counted.{no_calls};
+    ghost use Rattle.mg_memdisk.specs.Crashes.{is_open_for, found_in};
     ghost use Rattle.mg_memdisk.specs.Volumes.{mem_view, mem_open, mem_stands, mem_calls, IsEmpty, Pushes, Untouched};
     ghost use Rattle.mg_memdisk.specs.Events.{nothing, is_file, value_bytes};
 
@@ -63,6 +67,38 @@ impl MemVolume {
         self.counted.faults
     }
 
+    /// One image that a crash now may leave, as a volume of its own with no failing calls. Events are gone through in their
+    /// order. `choice` says, byte by byte: at a change of a name whose call failed, 1 for a change that shows; at an append,
+    /// 1 and a byte for each byte that stands behind the log's, while there is room up to the written length, and any other
+    /// byte to end them. Behind the end of `choice` each byte is 0. Every image that a crash may leave has such a choice.
+    ///
+    /// Each append and each sync costs a pass over all that happened before it.
+    pub fn crash(&self, alloc: Global, choice: &[u8]) -> Result<MemVolume, DiskError>
+        ensures left { IfOk result (λ left. (mem_view self.now).may_leave (mem_view left).contents) }
+        ensures only { IfOk result (λ left. (image : Image) → (mem_view left).may_leave image → image ≡ (mem_view left).contents) }
+        ensures closed { IfOk result (λ left. (name : Name) → mem_open left name ≡ false) }
+        ensures calls { IfOk result (λ left. (mem_calls left).failing.items ≡ []) }
+        ensures memory { IsErrOf result DiskError.Failed → ⊥ }
+    {
+        let left = image_left(alloc, &self.events, self.settled, choice)?;
+        Ok(MemVolume::found(alloc, left))
+    }
+
+    // A volume in which this was found, none of whose calls fail.
+    fn found(alloc: Global, events: Vec<Event>) -> MemVolume
+        ensures contents { (mem_view result).contents ≡ found_in events.items }
+        ensures only { (image : Image) → (mem_view result).may_leave image → image ≡ found_in events.items }
+        ensures closed { (name : Name) → mem_open result name ≡ false }
+        ensures calls { (mem_calls result).failing.items ≡ [] }
+    {
+        let settled = events.len();
+        MemVolume {
+            events,
+            settled,
+            counted: Counted::new(Vec::new(alloc)),
+        }
+    }
+
     // Makes what it holds lasting, and starts its clock anew.
     pub(crate) fn settle(&mut self)
         ensures opened { Opened (mem_view self.old) (mem_view self.new) }
@@ -75,6 +111,7 @@ impl MemVolume {
 
     // Keeps one event more.
     fn push(&mut self, event: Event) -> Result<(), DiskError>
+        requires { IsTrue (is_open_for (mem_open self.old) event) }
         ensures pushed { OnOk result (Pushes event self.old self.new) }
         ensures same { OnErr result (Untouched self.old self.new) }
         ensures calls { mem_calls self.new ≡ mem_calls self.old }
