@@ -39,7 +39,7 @@ through f false false false true true x1 x2 x3 x4 x5 x6 = refl
 through f false false false true false x1 x2 x3 x4 x5 x6 = refl
 through f false false false false b5 x1 x2 x3 x4 x5 x6 = refl
 
-slice_body : (bytes : List ℕ) (base size : ℕ) → slice_range bytes (base + 12) (base + 12 + size) ≡ take size (drop 12 (drop base bytes))
+pub slice_body : (bytes : List ℕ) (base size : ℕ) → slice_range bytes (base + 12) (base + 12 + size) ≡ take size (drop 12 (drop base bytes))
 slice_body bytes base size = ap (λ k. take k (drop (base + 12) bytes)) (omega arith) ∙ ap (take size) (sym (drop-drop 12 base bytes))
 
 taken_by_length : (id : FileId) (at len number base : ℕ) (bytes : List ℕ)

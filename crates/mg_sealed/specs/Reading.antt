@@ -1,5 +1,5 @@
 -- What is read of a sealed file: its length is judged once, and then each frame at its place.
-use Rattle.std.specs.Prelude.{◌≡◌, ℕ, ◌+◌, ◌<◌, ◌≤◌, ◌⊎◌, ◌==◌, List, length, take, drop, slice_range, nat_lt, if◌then◌else◌, Result, Ok, Err}
+use Rattle.std.specs.Prelude.{◌≡◌, ℕ, ◌+◌, ◌^◌, ◌<◌, ◌≤◌, ◌⊎◌, ◌==◌, List, length, take, drop, slice_range, nat_lt, if◌then◌else◌, Result, Ok, Err}
 use Rattle.mg_frame.specs.Frame.{taken, said_length}
 use Rattle.mg_frame.specs.declared.frame.Taken.{Taken}
 use Rattle.mg_frame.specs.declared.frame.Taken.TheVariants.{Whole, End, Short, Number, Torn}
@@ -29,6 +29,10 @@ body_or_damage id at len bytes (Torn kept found) = Err (Damaged id at kept found
 -- the body of the frame of this number that stands at this place of a file, or what is damaged there
 unfoldable pub frame_body : FileId → List ℕ → ℕ → ℕ → Result (List ℕ) Fault
 frame_body id bytes at number = body_or_damage id at (length bytes) bytes (taken bytes at number)
+
+-- a number that was read from a file at a place: it is below 2 ^ 62, or is damaged there
+abbrev pub checked_number : FileId → ℕ → ℕ → Result ℕ Fault
+checked_number id at number = if nat_lt number (2 ^ 62) then Ok number else Err (Damaged id at number (2 ^ 62))
 
 -- how many bytes the frame needs that these bytes begin: so many as a frame's front where they have no whole front
 unfoldable pub needed : List ℕ → ℕ

@@ -1,7 +1,7 @@
 //! Faults of devices as faults of calls.
 
 ghost use Rattle.std.specs.Prelude.{◌≡◌};
-ghost use Rattle.mg_sealed.specs.Answers.{read_fault};
+ghost use Rattle.mg_sealed.specs.Answers.{read_fault, write_fault};
 
 use mg_disk::DiskError;
 use mg_model::Fault;
@@ -13,5 +13,15 @@ pub(crate) fn read_fault(error: DiskError) -> Fault
     match error {
         DiskError::NoMemory => Fault::NoMemory,
         DiskError::Failed => Fault::ReadFault,
+    }
+}
+
+/// What a call answers where a write gave up so.
+pub(crate) fn write_fault(error: DiskError) -> Fault
+    ensures { result ≡ write_fault error }
+{
+    match error {
+        DiskError::NoMemory => Fault::NoMemory,
+        DiskError::Failed => Fault::WriteFault,
     }
 }
