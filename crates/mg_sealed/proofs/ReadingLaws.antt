@@ -54,10 +54,10 @@ taken_by_length id at len number base bytes =
     let same = eqb (said_number left) number in
     let intact = eqb (said_digest left) (true_digest left) in
     through (body_or_damage id at len bytes) none few short same intact End (Short 12 (length left)) (Short (size + 20) (length left))
-        (Whole (base + 12) (base + 12 + size) (base + 20 + size)) (Torn (said_digest left) (true_digest left)) (Number (said_number left) number)
+    (Whole (base + 12) (base + 12 + size) (base + 20 + size)) (Torn (said_digest left) (true_digest left)) (Number (said_number left) number)
     ∙ ap (λ (body : List ℕ). cond none (damaged id at (at + 12) len) (cond few (damaged id at (at + 12) len) (cond short (damaged id at (at + (size + 20)) len)
-        (cond same (cond intact (Ok body) (damaged id at (said_digest left) (true_digest left))) (damaged id at (said_number left) number)))))
-        (slice_body bytes base size)
+    (cond same (cond intact (Ok body) (damaged id at (said_digest left) (true_digest left))) (damaged id at (said_number left) number)))))
+    (slice_body bytes base size)
 
 -- ---- what a front says
 
@@ -108,8 +108,14 @@ unfolding by_length
 whole_same id at len number piece rest whole =
     let more = length-append piece rest in
     let said = said_length-front piece rest (omega arith) in
-    rw (ne_eqb (length (piece ++ rest)) 0 (λ e. omega arith), le-ltb (length (piece ++ rest)) 12 (omega arith), le-ltb (length (piece ++ rest)) (said_length (piece ++ rest) + 20) (omega arith),
-        ne_eqb (length piece) 0 (λ e. omega arith), le-ltb (length piece) 12 (omega arith), le-ltb (length piece) (said_length piece + 20) (omega arith))
+    rw (
+      ne_eqb (length (piece ++ rest)) 0 (λ e. omega arith),
+      le-ltb (length (piece ++ rest)) 12 (omega arith),
+      le-ltb (length (piece ++ rest)) (said_length (piece ++ rest) + 20) (omega arith),
+      ne_eqb (length piece) 0 (λ e. omega arith),
+      le-ltb (length piece) 12 (omega arith),
+      le-ltb (length piece) (said_length piece + 20) (omega arith),
+    )
     (by_number-front id at number piece rest whole)
 
 short_same : (id : FileId) (at len number : ℕ) (piece rest : List ℕ) → 12 ≤ length piece → length (piece ++ rest) < said_length piece + 20
@@ -118,8 +124,14 @@ unfolding by_length
 short_same id at len number piece rest header short =
     let more = length-append piece rest in
     let said = said_length-front piece rest (omega arith) in
-    rw (ne_eqb (length (piece ++ rest)) 0 (λ e. omega arith), le-ltb (length (piece ++ rest)) 12 (omega arith), lt-ltb (length (piece ++ rest)) (said_length (piece ++ rest) + 20) (omega arith),
-        ne_eqb (length piece) 0 (λ e. omega arith), le-ltb (length piece) 12 (omega arith), lt-ltb (length piece) (said_length piece + 20) (omega arith))
+    rw (
+      ne_eqb (length (piece ++ rest)) 0 (λ e. omega arith),
+      le-ltb (length (piece ++ rest)) 12 (omega arith),
+      lt-ltb (length (piece ++ rest)) (said_length (piece ++ rest) + 20) (omega arith),
+      ne_eqb (length piece) 0 (λ e. omega arith),
+      le-ltb (length piece) 12 (omega arith),
+      lt-ltb (length piece) (said_length piece + 20) (omega arith),
+    )
     (ap (λ k. damaged id at (at + (k + 20)) len) said)
 
 needed-header : (left : List ℕ) → 12 ≤ length left → needed left ≡ said_length left + 20
@@ -168,32 +180,32 @@ piece_says id at number bytes piece is =
 pub short_needs : (bytes : List ℕ) (number want have : ℕ) → taken bytes 0 number ≡ Short want have → want ≡ needed bytes
 unfolding taken judged compared
 short_needs bytes number want have is = elim (cases_eq (length bytes) 0) [
-    | inl none ↦ absurd (let e = rw (eq-eqb (length bytes) 0 none) at is in cc)
-    | inr some ↦ elim (cases_lt (length bytes) 12) [
-      | inl few ↦ let e = rw (ne_eqb (length bytes) 0 some, lt-ltb (length bytes) 12 few) at is in let w : want ≡ 12 = cc in w ∙ sym (needed-few bytes few)
-      | inr header ↦ elim (cases_lt (length bytes) (said_length bytes + 20)) [
-        | inl short ↦
-            let e = rw (ne_eqb (length bytes) 0 some, le-ltb (length bytes) 12 header, lt-ltb (length bytes) (said_length bytes + 20) short) at is in
-            let w : want ≡ said_length bytes + 20 = cc in w ∙ sym (needed-header bytes header)
-        | inr enough ↦
-            let e = rw (ne_eqb (length bytes) 0 some, le-ltb (length bytes) 12 header, le-ltb (length bytes) (said_length bytes + 20) enough) at is in
-            absurd (elim (cases_eq (said_number bytes) number) [
-              | inl same ↦ let e2 = rw (eq-eqb (said_number bytes) number same) at e in elim (cases_eq (said_digest bytes) (true_digest bytes)) [
-                | inl intact ↦ let e3 = rw (eq-eqb (said_digest bytes) (true_digest bytes) intact) at e2 in cc
-                | inr torn ↦ let e3 = rw (ne_eqb (said_digest bytes) (true_digest bytes) torn) at e2 in cc
-              ]
-              | inr other ↦ let e2 = rw (ne_eqb (said_number bytes) number other) at e in cc
-            ])
-      ]
+  | inl none ↦ absurd (let e = rw (eq-eqb (length bytes) 0 none) at is in cc)
+  | inr some ↦ elim (cases_lt (length bytes) 12) [
+    | inl few ↦ let e = rw (ne_eqb (length bytes) 0 some, lt-ltb (length bytes) 12 few) at is in let w : want ≡ 12 = cc in w ∙ sym (needed-few bytes few)
+    | inr header ↦ elim (cases_lt (length bytes) (said_length bytes + 20)) [
+      | inl short ↦
+          let e = rw (ne_eqb (length bytes) 0 some, le-ltb (length bytes) 12 header, lt-ltb (length bytes) (said_length bytes + 20) short) at is in
+          let w : want ≡ said_length bytes + 20 = cc in w ∙ sym (needed-header bytes header)
+      | inr enough ↦
+          let e = rw (ne_eqb (length bytes) 0 some, le-ltb (length bytes) 12 header, le-ltb (length bytes) (said_length bytes + 20) enough) at is in
+          absurd (elim (cases_eq (said_number bytes) number) [
+            | inl same ↦ let e2 = rw (eq-eqb (said_number bytes) number same) at e in elim (cases_eq (said_digest bytes) (true_digest bytes)) [
+              | inl intact ↦ let e3 = rw (eq-eqb (said_digest bytes) (true_digest bytes) intact) at e2 in cc
+              | inr torn ↦ let e3 = rw (ne_eqb (said_digest bytes) (true_digest bytes) torn) at e2 in cc
+            ]
+            | inr other ↦ let e2 = rw (ne_eqb (said_number bytes) number other) at e in cc
+          ])
     ]
+  ]
 ]
 
 -- ---- what is read is enough
 
 needed-least : (bytes : List ℕ) → 12 ≤ needed bytes
 needed-least bytes = elim (cases_lt (length bytes) 12) [
-    | inl few ↦ omega (arith, needed-few bytes few)
-    | inr header ↦ omega (arith, needed-header bytes header)
+  | inl few ↦ omega (arith, needed-few bytes few)
+  | inr header ↦ omega (arith, needed-header bytes header)
 ]
 
 said-take : (left : List ℕ) (n : ℕ) → 12 ≤ n → n ≤ length left → said_length (take n left) ≡ said_length left
@@ -212,7 +224,7 @@ first_enough left piece first room is sized within least stops =
     record {
       front = is ∙ taken_front left first (omega arith) ∙ ap (λ xs. take (length xs) left) (sym is);
       enough = elim (cases_lt first 12) [
-        | inl few ↦ inr (inl (elim least [ | inl header ↦ absurd (omega arith) | inr all ↦ omega arith ]))
+        | inl few ↦ inr (inl (elim least [ inl header ↦ absurd (omega arith) | inr all ↦ omega arith ]))
         | inr header ↦
             let said : said_length piece ≡ said_length left = ap said_length is ∙ said-take left first header (omega arith) in
             let needs = needed-header left (omega arith) in
@@ -230,7 +242,7 @@ pub second_enough : (left piece again : List ℕ) (first room : ℕ) → piece �
 second_enough left piece again first room is sized within least more fits is' =
     let len : length piece ≡ first = ap length is ∙ length-take-le first left (omega arith) in
     let len' : length again ≡ needed piece = ap length is' ∙ length-take-le (needed piece) left (omega arith) in
-    let header : 12 ≤ first = elim least [ | inl header ↦ header | inr all ↦ absurd (omega arith) ] in
+    let header : 12 ≤ first = elim least [ inl header ↦ header | inr all ↦ absurd (omega arith) ] in
     let said : said_length piece ≡ said_length left = ap said_length is ∙ said-take left first header (omega arith) in
     let needs = needed-header left (omega arith) in
     let needs' = needed-header piece (omega arith) in

@@ -19,9 +19,9 @@ body_in_frame number body rest =
     let numbered = big_endian 8 number in
     let x = digest (covered number body) ++ rest in
     let parts : frame number body ++ rest ≡ (size ++ numbered) ++ (body ++ x) =
-        frame_covered number body rest ∙ covered_parts number body x ∙ sym (append_assoc size numbered (body ++ x)) in
+    frame_covered number body rest ∙ covered_parts number body x ∙ sym (append_assoc size numbered (body ++ x)) in
     let header : length (size ++ numbered) ≡ 12 =
-        omega (arith, length-append size numbered, length-big_endian 4 (length body), length-big_endian 8 number) in
+    omega (arith, length-append size numbered, length-big_endian 4 (length body), length-big_endian 8 number) in
     ap (λ xs. take (length body) (drop 12 xs)) parts
     ∙ ap (take (length body)) (drop_at (size ++ numbered) (body ++ x) 12 header)
     ∙ take_at body x (length body) refl
@@ -38,9 +38,9 @@ written_frame_is_read id before after body few fits =
     let number = length before in
     let rest = frames (enumerate_from (number + 1) after) in
     let parts : bytes ≡ frames (enumerate_from 0 before) ++ (frame number body ++ rest) =
-        frames_from-append 0 before (body ∷ after)
-        ∙ ap (λ k. frames (enumerate_from 0 before) ++ frames (enumerate_from k (body ∷ after))) (omega arith)
-        ∙ ap (λ xs. frames (enumerate_from 0 before) ++ xs) (frames-first number body after) in
+    frames_from-append 0 before (body ∷ after)
+    ∙ ap (λ k. frames (enumerate_from 0 before) ++ frames (enumerate_from k (body ∷ after))) (omega arith)
+    ∙ ap (λ xs. frames (enumerate_from 0 before) ++ xs) (frames-first number body after) in
     let left : drop at bytes ≡ frame number body ++ rest = ap (drop at) parts ∙ drop_at (frames (enumerate_from 0 before)) (frame number body ++ rest) at refl in
     let whole = TakesWritten-taken bytes at number few body rest fits left in
     let found = slice_body bytes at (length body) ∙ ap (λ xs. take (length body) (drop 12 xs)) left ∙ body_in_frame number body rest in

@@ -13,8 +13,8 @@ use Rattle.mg_sealed.specs.declared.reading.SealedFile.{SealedFile}
 unfoldable pub opened : {S : Type 0} → FileId → S → ℕ → ℕ → List ℕ → Result (SealedFile S) Fault
 opened id file len least bytes =
     if length bytes == len then
-        (if nat_lt (length bytes) least then Err (Damaged id 0 least (length bytes))
-        else Ok (record { id = id; file = file; len = len }))
+    (if nat_lt (length bytes) least then Err (Damaged id 0 least (length bytes))
+    else Ok (record { id = id; file = file; len = len }))
     else Err (Damaged id 0 len (length bytes))
 
 -- what an answer of `take_frame` at a place says of a file of this length: the body among the bytes, or the two numbers that
@@ -25,6 +25,10 @@ body_or_damage id at len bytes End = Err (Damaged id at (at + 12) len)
 body_or_damage id at len bytes (Short want have) = Err (Damaged id at (at + want) len)
 body_or_damage id at len bytes (Number kept asked) = Err (Damaged id at kept asked)
 body_or_damage id at len bytes (Torn kept found) = Err (Damaged id at kept found)
+
+-- two numbers at this place of the file don't agree
+abbrev pub IsDamageAt : FileId → ℕ → Fault → Type 0
+IsDamageAt id at fault = (kept : ℕ) × (found : ℕ) × (fault ≡ Damaged id at kept found)
 
 -- the body of the frame of this number that stands at this place of a file, or what is damaged there
 unfoldable pub frame_body : FileId → List ℕ → ℕ → ℕ → Result (List ℕ) Fault

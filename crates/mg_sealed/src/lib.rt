@@ -7,7 +7,11 @@
 
 mod errors;
 mod reading;
+#[cfg(test)]
+mod tests;
 mod writing;
 
 pub use reading::{Frame, SealedFile, checked_number, open_sealed, read_frame};
-pub use writing::{FrameWriter, Placed, append_frame, seal_frames, start_frames, written_frame_is_read};
+pub use writing::{
+    FrameWriter, Placed, append_frame, seal_frames, start_frames, written_frame_is_read,
+};

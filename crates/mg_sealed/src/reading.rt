@@ -1,10 +1,10 @@
 //! Frames of a sealed file.
 
-ghost use Rattle.std.specs.Prelude.{◌≡◌, ◌+◌, ◌<◌, ◌≤◌, ◌^◌, length, take, drop, IfOk, IfErr, IfSome, MatchResult, Ok, Err};
+ghost use Rattle.std.specs.Prelude.{◌≡◌, ◌+◌, ◌<◌, ◌≤◌, ◌^◌, ◌⊎◌, length, take, drop, IfOk, IfErr, IfSome, MatchResult, Ok, Err};
 ghost use Rattle.mg_faults.specs.Causes.{HasCause};
 ghost use Rattle.mg_frame.specs.Frame.{taken};
 ghost use Rattle.mg_sealed.specs.Answers.{Answers, IsOutside};
-ghost use Rattle.mg_sealed.specs.Reading.{body_or_damage, checked_number, frame_body, needed, opened, IsEnough};
+ghost use Rattle.mg_sealed.specs.Reading.{body_or_damage, checked_number, frame_body, needed, opened, IsDamageAt, IsEnough};
 
 use crate::errors::read_fault;
 use mg_disk::Files;
@@ -53,11 +53,25 @@ impl Frame {
     {
         &self.bytes[self.start..self.end]
     }
+
+    /// The body in the memory that was read, at whose front it is put. Takes no memory.
+    pub fn into_body(self) -> Vec<u8>
+        ensures { result.items ≡ self }
+    {
+        let Frame {
+            mut bytes,
+            start,
+            end,
+        } = self;
+        bytes.copy_within(start..end, 0);
+        bytes.truncate(end - start);
+        bytes
+    }
 }
 
-#[tactic(auto, unfolding(crate::specs::Reading::opened))]
 /// Judges a file's length: that it is the length `len` which is kept of the file, and at least `least`, the length of the
 /// frame that ends a file of its kind. Reads nothing of the file.
+#[tactic(auto, unfolding(crate::specs::Reading::opened))]
 pub fn open_sealed<F: Files>(
     alloc: Global,
     port: &mut F,
@@ -95,6 +109,7 @@ pub fn read_frame<F: Files>(
     requires { at < 2 ^ 62 }
     ensures told { IfSome (F.told file.now.file) (λ bytes. file.now.len ≡ length bytes →
         Answers (frame_body file.now.id bytes at number) result) }
+    ensures refusals { IfErr result (λ fault. IsOutside fault ⊎ IsDamageAt file.now.id at fault) }
     ensures cause { HasCause Fault.ReadFault (F.faults port.old) (F.faults port.new) result }
 {
     let bytes = read_enough(alloc, port, file, at, expected)?;
@@ -155,8 +170,8 @@ fn read_piece<F: Files>(
     Ok(bytes)
 }
 
-#[tactic(auto, unfolding(crate::specs::Reading::needed, mg_frame::specs::BigEndian::front_number, mg_frame::specs::Frame::said_length))]
 /// How many bytes the frame needs that the bytes begin, or its front where they are shorter than that.
+#[tactic(auto, unfolding(crate::specs::Reading::needed, mg_frame::specs::BigEndian::front_number, mg_frame::specs::Frame::said_length))]
 fn needed(bytes: &[u8]) -> u64
     ensures needed { result ≡ needed bytes.now }
     ensures bound { result < 2 ^ 33 }

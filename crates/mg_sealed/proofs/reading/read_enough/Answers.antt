@@ -21,7 +21,7 @@ returns-then-needed-len-clause-told g c =
     let known : List ℕ → Type 0 = λ bytes. piece ≡ take first (drop c.args.at bytes) in
     let wanted : List ℕ → Type 0 = λ bytes. c.args.file.now.len ≡ length bytes → IsEnough (drop c.args.at bytes) piece in
     IfSome_then (g.F.Files.told c.args.file.now.file) {P = known} {Q = wanted} c.in_ok-piece.ensures.told (λ bytes is len.
-        first_enough (drop c.args.at bytes) piece first room is (grind (arith, length-drop c.args.at bytes)) within least stops)
+    first_enough (drop c.args.at bytes) piece first room is (grind (arith, length-drop c.args.at bytes)) within least stops)
 
 IfOk_then : {T E : Type 0} (r : Result T E) (P Q : T → Type 0) → IfOk r P → ((x : T) → P x → Q x) → IfOk r Q
 IfOk_then (Ok x) P Q p f = f x p
@@ -45,6 +45,6 @@ returns-clause-told g c =
     let again : List ℕ → Type 0 = λ bytes. IfOk c.read_piece-2.result (λ piece. piece.items ≡ take c.needed-needed.result (drop c.args.at bytes)) in
     let wanted : List ℕ → Type 0 = λ bytes. c.args.file.now.len ≡ length bytes → IfOk c.read_piece-2.result (λ piece. IsEnough (drop c.args.at bytes) piece.items) in
     both (g.F.Files.told c.args.file.now.file) known again wanted c.in_ok-piece.ensures.told c.read_piece-2.ensures.told (λ bytes is is' len.
-        IfOk_then c.read_piece-2.result (λ piece. piece.items ≡ take c.needed-needed.result (drop c.args.at bytes)) (λ piece. IsEnough (drop c.args.at bytes) piece.items) is' (λ other found.
-            second_enough (drop c.args.at bytes) piece other.items first room is (grind (arith, length-drop c.args.at bytes)) within least more fits
-            (found ∙ ap (λ k. take k (drop c.args.at bytes)) need)))
+    IfOk_then c.read_piece-2.result (λ piece. piece.items ≡ take c.needed-needed.result (drop c.args.at bytes)) (λ piece. IsEnough (drop c.args.at bytes) piece.items) is' (λ other found.
+    second_enough (drop c.args.at bytes) piece other.items first room is (grind (arith, length-drop c.args.at bytes)) within least more fits
+    (found ∙ ap (λ k. take k (drop c.args.at bytes)) need)))

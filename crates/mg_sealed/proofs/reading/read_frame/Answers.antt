@@ -20,6 +20,6 @@ returns-clause-told g c =
     let known : List ℕ → Type 0 = λ bytes. c.args.file.now.len ≡ length bytes → IsEnough (drop at bytes) piece in
     let wanted : List ℕ → Type 0 = λ bytes. c.args.file.now.len ≡ length bytes → Answers (frame_body id bytes at number) c.judge.result in
     IfSome_then (g.F.Files.told c.args.file.now.file) {P = known} {Q = wanted} c.in_ok-bytes.ensures.told (λ bytes enough len.
-        answers_by c.judge.result (frame_body id bytes at number) (body_or_damage id at c.args.file.now.len piece (taken piece 0 number))
-        (piece_says id at number bytes piece (enough len) ∙ ap (λ (k : ℕ). body_or_damage id at k piece (taken piece 0 number)) (sym len))
-        c.judge.ensures)
+    answers_by c.judge.result (frame_body id bytes at number) (body_or_damage id at c.args.file.now.len piece (taken piece 0 number))
+    (piece_says id at number bytes piece (enough len) ∙ ap (λ (k : ℕ). body_or_damage id at k piece (taken piece 0 number)) (sym len))
+    c.judge.ensures)

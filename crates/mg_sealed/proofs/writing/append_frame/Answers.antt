@@ -14,7 +14,7 @@ returns-clause-frames g c =
     let put : drafted c.append.new.draft ≡ extended (drafted inside.draft) piece = grind arith in
     let framed : piece ≡ frame inside.count c.args.body.now = grind (arith, common_steps) in
     λ bodies has.
-        let has' = subst (λ w. HasFrames drafted w bodies) (sym c.writer.view_is) has in
-        puts_frame drafted (record { draft = inside.draft; len = inside.len; count = inside.count })
-            (record { draft = c.append.new.draft; len = inside.len + (length c.args.body.now + 20); count = inside.count + 1 })
-            bodies c.args.body.now piece has' put framed refl refl
+    let has' = subst (λ w. HasFrames drafted w bodies) (sym c.writer.view_is) has in
+    puts_frame drafted (record { draft = inside.draft; len = inside.len; count = inside.count })
+    (record { draft = c.append.new.draft; len = inside.len + (length c.args.body.now + 20); count = inside.count + 1 })
+    bodies c.args.body.now piece has' put framed refl refl
