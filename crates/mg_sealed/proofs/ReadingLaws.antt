@@ -1,8 +1,8 @@
 -- A piece of a file that is enough of it is judged as what is left of the file.
-use Rattle.std.proofs.Common.{◌≡◌, ℕ, ◌+◌, ◌-◌, ◌<◌, ◌≤◌, ◌⊎◌, List, ◌++◌, length, take, drop, refl, sym, ap, ◌∙◌, arith, inl, inr, ltb, eqb, true, false, Bool, cond, Result, Ok, Err}
+use Rattle.std.proofs.Common.{◌≡◌, ℕ, ◌+◌, ◌<◌, ◌≤◌, ◌⊎◌, List, ◌++◌, length, take, drop, refl, sym, ap, ◌∙◌, arith, inl, inr, ltb, eqb, true, false, Bool, cond, Result, Ok, Err}
 use Rattle.std.proofs.lemmas.List.{take-append-le, drop-append-le, take-append-drop, length-append, length-drop, drop-drop, take_all, length-take-le}
 use Rattle.std.proofs.lemmas.Bool.{lt-ltb, le-ltb, eq-eqb, ne_eqb, cases_lt, cases_eq}
-use Rattle.std.specs.Prelude.{slice_range, if◌then◌else◌}
+use Rattle.std.specs.Prelude.{slice_range}
 use Rattle.mg_frame.specs.BigEndian.{big_endian_value}
 use Rattle.mg_frame.specs.Frame.{digest, said_length, said_number, said_digest, true_digest, compared, judged, taken}
 use Rattle.mg_frame.specs.declared.frame.Taken.TheVariants.{Whole, End, Short, Number, Torn}

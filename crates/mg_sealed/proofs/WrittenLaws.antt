@@ -1,10 +1,10 @@
 -- What is written is read again.
-use Rattle.std.proofs.Common.{◌≡◌, ℕ, ◌+◌, ◌<◌, ◌^◌, List, ◌∷◌, ◌++◌, length, take, drop, refl, sym, ap, ◌∙◌, arith, append_assoc, Result, Ok}
+use Rattle.std.proofs.Common.{◌≡◌, ℕ, ◌+◌, List, ◌∷◌, ◌++◌, length, take, drop, refl, sym, ap, ◌∙◌, arith, append_assoc, Result, Ok}
 use Rattle.std.proofs.lemmas.List.{length-append, drop_at, take_at}
 use Rattle.std.specs.List.{enumerate_from}
 use Rattle.mg_frame.specs.BigEndian.{big_endian}
 use Rattle.mg_frame.proofs.BigEndianLaws.{length-big_endian}
-use Rattle.mg_frame.specs.Frame.{digest, covered, frame, taken}
+use Rattle.mg_frame.specs.Frame.{digest, covered, frame}
 use Rattle.mg_frame.specs.Frames.{frames, numbered_frames}
 use Rattle.mg_frame.proofs.FrameLaws.{frame_covered, covered_parts, TakesWritten-taken}
 use Rattle.mg_model.specs.declared.faults.Fault.{Fault}

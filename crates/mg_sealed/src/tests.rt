@@ -130,6 +130,9 @@ fn written(alloc: Global, failing: u64) -> Result<Vec<u8>, Fault> {
     let mut writer = start_frames(alloc, &mut port)?;
     let first = append_frame(alloc, &mut port, &mut writer, b"ab")?;
     let second = append_frame(alloc, &mut port, &mut writer, b"c")?;
+    if writer.len() != 43 || writer.count() != 2 {
+        return Err(Fault::BadWords);
+    }
     let file = seal_frames(alloc, &mut port, writer, ID)?;
     let frame = read_frame(alloc, &mut port, &file, 0, first.len as usize, 0)?;
     if frame.body() != b"ab".as_slice() || second != (Placed { at: 22, len: 21 }) {

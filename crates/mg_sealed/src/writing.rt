@@ -37,6 +37,22 @@ impl<D> Model for FrameWriter<D> {
     ghost invariant = { λ w. w.count ≤ w.len };
 }
 
+impl<D> FrameWriter<D> {
+    /// How many bytes were put into the file, which is the place of the next frame.
+    pub fn len(&self) -> u64
+        ensures { result ≡ self.now.len }
+    {
+        self.len
+    }
+
+    /// How many frames were put into the file, which is the number of the next one.
+    pub fn count(&self) -> u64
+        ensures { result ≡ self.now.count }
+    {
+        self.count
+    }
+}
+
 /// Where a frame was put, and its whole length in bytes.
 #[derive(Clone, Copy, Debug, PartialEq, Eq)]
 pub struct Placed {
@@ -47,6 +63,8 @@ pub struct Placed {
 /// A file in writing without a frame. Takes no memory of its own.
 pub fn start_frames<F: Files>(alloc: Global, port: &mut F) -> Result<FrameWriter<F::Draft>, Fault>
     ensures empty { IfOk result (λ writer. HasFrames F.drafted writer []) }
+    ensures len { IfOk result (λ writer. writer.len ≡ 0) }
+    ensures count { IfOk result (λ writer. writer.count ≡ 0) }
     ensures outside { IfErr result (λ fault. IsUnwritten fault) }
     ensures cause { HasCause Fault.WriteFault (F.faults port.old) (F.faults port.new) result }
 {

@@ -1,4 +1,4 @@
-use Rattle.std.proofs.Common.{◌≡◌, sym, ap, ◌∙◌, Err}
+use Rattle.std.proofs.Common.{◌≡◌}
 use Rattle.mg_frame.specs.Frame.{taken}
 use Rattle.mg_frame.specs.declared.frame.Taken.TheVariants.{Short}
 use Rattle.mg_sealed.proofs.ReadingLaws.{short_needs}

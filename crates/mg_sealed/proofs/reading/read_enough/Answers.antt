@@ -1,4 +1,4 @@
-use Rattle.std.proofs.Common.{IfOk, IfSome, Result, Ok, Err, Option, Some, None, ◌≡◌, ◌≤◌, ◌<◌, ◌⊎◌, ◌-◌, ◌+◌, ℕ, List, length, take, drop, arith, inl, inr, ap, ◌∙◌, sym, rules}
+use Rattle.std.proofs.Common.{IfOk, IfSome, Result, Ok, Err, Option, Some, None, ◌≡◌, ◌≤◌, ◌<◌, ◌⊎◌, ℕ, List, length, take, drop, arith, inl, inr, ap, ◌∙◌}
 use Rattle.std.proofs.lemmas.Option.{IfSome_then}
 use Rattle.std.proofs.lemmas.List.{length-drop}
 use Rattle.mg_sealed.specs.Reading.{needed, IsEnough}

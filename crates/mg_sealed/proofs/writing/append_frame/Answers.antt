@@ -1,4 +1,4 @@
-use Rattle.std.proofs.Common.{◌≡◌, ◌+◌, List, ℕ, refl, length, sym, ap, subst, ◌∙◌, arith, ◌++◌, [], ◌∷◌, OnOk}
+use Rattle.std.proofs.Common.{◌≡◌, ◌+◌, refl, length, sym, subst, arith}
 use Rattle.std.proofs.lemmas.Grind.{common_steps}
 use Rattle.mg_disk.specs.Files.{extended}
 use Rattle.mg_frame.specs.Frame.{frame}

@@ -1,5 +1,4 @@
-use Rattle.std.proofs.Common.{◌≡◌, List, ℕ, sym, ap, arith, [], IfSome, length, refl}
-use Rattle.mg_frame.specs.Frames.{numbered_frames}
+use Rattle.std.proofs.Common.{◌≡◌, sym, ap, arith, [], IfSome, length, refl}
 use Rattle.mg_sealed.proofs.WritingLaws.{numbered-none}
 use Rattle.mg_sealed.proofs.writing.start_frames.Goals as goal
 
