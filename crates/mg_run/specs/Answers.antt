@@ -1,5 +1,5 @@
 -- Which answers fit a script's calls, with the history that they make.
-use Rattle.std.specs.Prelude.{◌≡◌, ℕ, ◌+◌, List, [], ◌∷◌, ◌++◌, length, Bool, true, false, Option, None, Some, Result, Ok, Err}
+use Rattle.std.specs.Prelude.{◌≡◌, ◌≤◌, ℕ, ◌+◌, List, [], ◌∷◌, ◌++◌, length, Bool, true, false, Option, None, Some, Result, Ok, Err}
 use Rattle.std.specs.Bool.{MatchBool}
 use Rattle.mg_model.specs.declared.calls.Call.{Call}
 use Rattle.mg_model.specs.declared.calls.Call.TheVariants.{Set, Del, Get, Feed, Mark, Forget, Rollback, Clear, Sync, Compact, Stats}
@@ -7,8 +7,8 @@ use Rattle.mg_model.specs.declared.faults.Fault.{Fault}
 use Rattle.mg_model.specs.declared.faults.Fault.TheVariants.{NoMemory}
 use Rattle.mg_model.specs.declared.replies.Answer.{Answer}
 use Rattle.mg_model.specs.declared.replies.Reply.{Reply}
-use Rattle.mg_model.specs.History.{History, reply_at}
-use Rattle.mg_model.specs.State.{State}
+use Rattle.mg_model.specs.History.{History, after_history, reply_at}
+use Rattle.mg_model.specs.State.{State, new_state, length_of}
 use Rattle.mg_script.specs.declared.script.Line.{Line}
 
 -- a call that reads, and takes its place also where it is answered a fault
@@ -52,3 +52,12 @@ AllFit start before [] [] after = after ≡ before
 AllFit start before (line ∷ lines) (answer ∷ answers) after = (mid : History) × Fits start before line answer mid × AllFit start mid lines answers after
 AllFit start before [] (answer ∷ answers) after = ⊥
 AllFit start before (line ∷ lines) [] after = ⊥
+
+-- a call entered a history, or not, and its answer fits; the machine stands where the history leads
+pub record Enters (before : History) (line : Line) (answer : Answer) (plain plain' : State) (places' : ℕ) : Type 0 where
+  pub after : History
+  pub fits : Fits new_state before line answer after
+  pub state : plain' ≡ after_history new_state after
+  pub places : places' ≡ length after
+  pub few : length after ≤ length before + 1
+  pub short : length_of plain' ≤ length_of plain + 1

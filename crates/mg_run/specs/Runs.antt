@@ -1,5 +1,5 @@
 -- What a run reads, writes and answers.
-use Rattle.std.specs.Prelude.{◌≡◌, ◌≤◌, ℕ, ◌+◌, List, [], ◌∷◌, ◌++◌, length, take, map, Bool, ◌||◌, ◌==◌, Option, None, Some, Result, Ok, Err, ◌⊎◌, if◌then◌else◌}
+use Rattle.std.specs.Prelude.{◌≡◌, ◌≤◌, ℕ, ◌+◌, List, [], ◌∷◌, ◌++◌, length, take, map, ◌||◌, ◌==◌, Option, Result, Ok, Err, ◌⊎◌, if◌then◌else◌}
 use Rattle.std.specs.List.{count_by, fold}
 use Rattle.std.specs.Io.KnownBytes.{Appends, Consumes, IsAtEnd, Keeps}
 use Rattle.mg_faults.specs.Causes.{Rose}
@@ -9,7 +9,7 @@ use Rattle.mg_model.specs.declared.faults.Why.{Why}
 use Rattle.mg_model.specs.declared.replies.Answer.{Answer}
 use Rattle.mg_model.specs.declared.replies.Reply.{Reply}
 use Rattle.mg_model.specs.History.{History, after_history}
-use Rattle.mg_model.specs.State.{State, new_state, length_of}
+use Rattle.mg_model.specs.State.{new_state, length_of}
 use Rattle.mg_script.specs.declared.script.Line.{Line}
 use Rattle.mg_script.specs.Script.{script_of}
 use Rattle.mg_script.specs.Transcript.{answer_line, end_line}
@@ -133,6 +133,12 @@ StopsReading left left' faults faults' fault.NoMemory = Unit {0}
 StopsReading left left' faults faults' fault.ReadFault = Rose faults faults'
 StopsReading left left' faults faults' (fault.TooLong limit) = IsTooLong left left' limit
 StopsReading left left' faults faults' other = ⊥
+
+-- why one read gave nothing
+abbrev pub FailsRead : ℕ → ℕ → Fault → Type 0
+FailsRead faults faults' fault.NoMemory = Unit {0}
+FailsRead faults faults' fault.ReadFault = Rose faults faults'
+FailsRead faults faults' other = ⊥
 
 -- one piece of the input was taken, to which the bytes read so far grew; an empty piece means the end
 pub record TakesPiece (left left' : Option (List ℕ)) (bytes bytes' : List ℕ) (count : ℕ) : Type 0 where

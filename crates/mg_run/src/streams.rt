@@ -2,7 +2,7 @@
 
 ghost use Rattle.std.specs.Prelude.{◌≡◌, ◌+◌, ◌≤◌, ◌<◌, length, IfOk, MatchResult};
 ghost use Rattle.std.specs.Io.KnownBytes.{Appends};
-ghost use Rattle.mg_run.specs.Runs.{ReadsAll, script_limit, StopsReading, StopsWriting, TakesPiece};
+ghost use Rattle.mg_run.specs.Runs.{FailsRead, ReadsAll, script_limit, StopsReading, StopsWriting, TakesPiece};
 
 use mg_io::{IoError, Sink, Source};
 use mg_model::Fault;
@@ -24,8 +24,10 @@ pub fn read_all<S: Source>(alloc: Global, input: &mut S) -> Result<Vec<u8>, Faul
     let mut bytes = Vec::new(alloc);
     let mut buffer = [0u8; PIECE];
     while bytes.len() <= SCRIPT_LIMIT {
-        if read_piece(input, &mut buffer, &mut bytes)? == 0 {
-            return Ok(bytes);
+        match read_piece(input, &mut buffer, &mut bytes) {
+            Ok(0) => return Ok(bytes),
+            Ok(_) => {}
+            Err(fault) => return Err(fault),
         }
     }
     Err(Fault::TooLong {
@@ -43,7 +45,7 @@ fn read_piece<S: Source>(
     requires limit { length bytes.old.items ≤ script_limit }
     ensures later { S.faults input.old ≤ S.faults input.new }
     ensures taken { MatchResult result (λ count. TakesPiece (S.left input.old) (S.left input.new) bytes.old.items bytes.new.items count)
-        (λ fault. StopsReading (S.left input.old) (S.left input.new) (S.faults input.old) (S.faults input.new) fault) }
+        (λ fault. FailsRead (S.faults input.old) (S.faults input.new) fault) }
 {
     let room = (SCRIPT_LIMIT + 1 - bytes.len()).min(buffer.len());
     let piece = &mut buffer[..room];
@@ -69,7 +71,8 @@ pub fn write_all<K: Sink>(out: &mut K, bytes: &[u8]) -> Result<(), Fault>
             Err(IoError::NoMemory) => return Err(Fault::NoMemory),
             Err(IoError::Failed) => return Err(Fault::WriteFault),
         };
-        rest = &rest[count..];
+        let (_, behind) = rest.split_at(count);
+        rest = behind;
     }
     Ok(())
 }

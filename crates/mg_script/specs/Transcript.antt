@@ -1,9 +1,7 @@
 -- How answers, end lines, script lines and faults are spelled.
-use Rattle.std.specs.Prelude.{ℕ, List, [], ◌∷◌, ◌++◌, codes, Option, None, Some, Result, Ok, Err}
+use Rattle.std.specs.Prelude.{ℕ, List, [], ◌++◌, codes, Option, None, Some, Result, Ok, Err}
 use Rattle.std.specs.Fmt.{decimal}
 use Rattle.std.specs.List.{flat_map}
-use Rattle.mg_model.specs.declared.calls.Call.{Call}
-use Rattle.mg_model.specs.declared.calls.Call.TheVariants as call
 use Rattle.mg_model.specs.declared.documents.Doc.{Doc}
 use Rattle.mg_model.specs.declared.documents.Item.{Item}
 use Rattle.mg_model.specs.declared.faults.Fault.{Fault}
@@ -14,7 +12,6 @@ use Rattle.mg_model.specs.declared.faults.Why.TheVariants as why
 use Rattle.mg_model.specs.declared.replies.Answer.{Answer}
 use Rattle.mg_model.specs.declared.replies.Reply.{Reply}
 use Rattle.mg_model.specs.declared.replies.Reply.TheVariants as reply
-use Rattle.mg_script.specs.declared.script.Line.{Line}
 use Rattle.mg_script.specs.Tokens.{token_of}
 
 -- a word and the number behind it

@@ -1,6 +1,5 @@
 use Rattle.std.proofs.Common.{◌≡◌, ◌≤◌, ◌++◌, List, ℕ, length}
 use Rattle.std.specs.Io.KnownBytes.{Appends}
-use Rattle.mg_run.specs.Runs.{WritesFront}
 use Rattle.mg_run.proofs.streams.write_all.Given as goal
 
 abbrev pub invariant-loop-rest : goal.invariant-loop-rest

@@ -1,4 +1,4 @@
-use Rattle.std.proofs.Common.{◌≡◌, ◌∷◌, ◌∙◌, List, ℕ, ap, sym, take, drop, arith}
+use Rattle.std.proofs.Common.{◌≡◌, ◌∷◌, ◌∙◌, List, ℕ, ap, sym, drop, arith}
 use Rattle.std.specs.Bool.{◌==◌}
 use Rattle.std.specs.List.{slice_split}
 use Rattle.mg_script.proofs.Cuts.{cut_at, cut_nowhere}

@@ -1,4 +1,4 @@
-use Rattle.std.proofs.Common.{◌≡◌, ◌+◌, ◌≢◌, length, sym, arith}
+use Rattle.std.proofs.Common.{◌+◌, ◌≢◌, length, sym, arith}
 use Rattle.std.proofs.lemmas.List.{nil_from_length, length_push}
 use Rattle.std.proofs.lemmas.List.Elements.{All-push}
 use Rattle.mg_script.specs.Script.{IsLine}

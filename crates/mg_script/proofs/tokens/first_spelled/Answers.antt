@@ -1,4 +1,4 @@
-use Rattle.std.proofs.Common.{◌≡◌, ◌≤◌, ◌≢◌, length, get_or, arith}
+use Rattle.std.proofs.Common.{◌≤◌, ◌≢◌, length, get_or, arith}
 use Rattle.mg_script.proofs.Spellings.{begins_escaped, begins_badly, begins_plain, begins_with_none}
 use Rattle.mg_script.proofs.tokens.first_spelled.Goals as goal
 use Rattle.mg_script.proofs.tokens.first_spelled.Goals.{else-text-ge3-via-then-text-ge3+else-text-eq37, else-text-ge3-via-else-text-ge3}

@@ -1,0 +1,6 @@
+pub mod Answering
+pub mod Ends
+pub mod Entries
+pub mod Pieces
+pub mod ServingLemmas
+pub mod Standing
