@@ -14,5 +14,5 @@ returns-clause-faults c =
     let lt : c.place-at.result < length c.args.self.now.slots = search rules in
     let slot = slot_there c.args.self.now.slots c.args.n c.place-at.result c.index-self-at.result c.place-at.ensures.place lt (out_exists c.args.self.now.slots c.args.n c.requires) in
     let vol = c.args.vol.counted.faults in
-    c.rise_by.ensures.count ∙ ap (λ (k : ℕ). raised c.args.self.now.faults (k - (get_or c.args.self.now.slots c.place-at.result c.index-self-at.result).lent_faults)) c.faults.ensures
+    c.rise_by.ensures ∙ ap (λ (k : ℕ). raised c.args.self.now.faults (k - (get_or c.args.self.now.slots c.place-at.result c.index-self-at.result).lent_faults)) c.faults.ensures
     ∙ ap (λ (k : ℕ). raised c.args.self.now.faults (vol - k)) (sym (ap slot_faults slot))
