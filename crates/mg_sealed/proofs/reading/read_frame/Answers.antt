@@ -1,0 +1,25 @@
+use Rattle.std.proofs.Common.{length, drop, ◌≡◌, ℕ, List, sym, ap, ◌∙◌, Result, Ok, Err, inr, MatchResult}
+use Rattle.std.proofs.lemmas.Option.{IfSome_then}
+use Rattle.mg_frame.specs.Frame.{taken}
+use Rattle.mg_model.specs.declared.faults.Fault.{Fault}
+use Rattle.mg_sealed.specs.Answers.{Answers}
+use Rattle.mg_sealed.specs.Reading.{body_or_damage, frame_body, IsEnough}
+use Rattle.mg_sealed.proofs.ReadingLaws.{piece_says}
+use Rattle.mg_sealed.proofs.reading.read_frame.Goals as goal
+
+answers_by : (r a b : Result (List ℕ) Fault) → a ≡ b → MatchResult r (λ x. b ≡ Ok x) (λ fault. b ≡ Err fault) → Answers a r
+answers_by (Ok x) a b same is = same ∙ is
+answers_by (Err fault) a b same is = inr (same ∙ is)
+
+pub returns-clause-told : goal.returns-clause-told
+returns-clause-told g c =
+    let id = c.args.file.now.id in
+    let at = c.args.at in
+    let number = c.args.number in
+    let piece = c.in_ok-bytes.bytes.items in
+    let known : List ℕ → Type 0 = λ bytes. c.args.file.now.len ≡ length bytes → IsEnough (drop at bytes) piece in
+    let wanted : List ℕ → Type 0 = λ bytes. c.args.file.now.len ≡ length bytes → Answers (frame_body id bytes at number) c.judge.result in
+    IfSome_then (g.F.Files.told c.args.file.now.file) {P = known} {Q = wanted} c.in_ok-bytes.ensures.told (λ bytes enough len.
+    answers_by c.judge.result (frame_body id bytes at number) (body_or_damage id at c.args.file.now.len piece (taken piece 0 number))
+    (piece_says id at number bytes piece (enough len) ∙ ap (λ (k : ℕ). body_or_damage id at k piece (taken piece 0 number)) (sym len))
+    c.judge.ensures)
