@@ -7,6 +7,8 @@
 
 mod errors;
 mod reading;
+#[cfg(test)]
+mod tests;
 mod writing;
 
 pub use reading::{Frame, SealedFile, checked_number, open_sealed, read_frame};
