@@ -5,123 +5,192 @@ use std::alloc::Global;
 use std::process::Abort;
 use std::test::Fail;
 
-fn key(alloc: Global, text: &str) -> Result<Key, Fail> {
-    Ok(Key::new(alloc, text.as_bytes())?.ok_or("no key")?)
-}
-
-fn doc(alloc: Global, text: &str) -> Result<Doc, Fail> {
-    Ok(Doc::new(alloc, text.as_bytes())?.ok_or("no document")?)
-}
-
-fn letters(alloc: Global, count: u64) -> Result<Vec<u8>, Fail> {
-    let mut bytes = Vec::new(alloc);
-    for _ in 0..count {
-        bytes.push(b'k')?;
-    }
-    Ok(bytes)
+fn letters(alloc: Global, count: usize) -> Result<Vec<u8>, Fail> {
+    Ok(vec![in alloc; b'k'; count]?)
 }
 
 #[test]
-fn keys_and_documents_have_limits(rt: HostRuntime) -> Result<(), Fail> {
+fn keys_have_limits(rt: HostRuntime) -> Result<(), Fail> {
     let alloc = rt.alloc();
     assert!(rt; Key::new(alloc, b"")?.is_none());
-    assert!(rt; Key::new(alloc, letters(alloc, 251)?.as_slice())?.is_none());
+    assert!(rt; Key::from_vec(letters(alloc, 251)?).is_none());
     let longest = letters(alloc, 250)?;
     let key = Key::new(alloc, longest.as_slice())?.ok_or("no key")?;
-    assert_eq!(rt; key.bytes(), longest.as_slice());
     assert_eq!(rt; key.copy(alloc)?.bytes(), longest.as_slice());
-    assert!(rt; Doc::new(alloc, letters(alloc, 1_048_577)?.as_slice())?.is_none());
-    assert!(rt; Doc::from_vec(letters(alloc, 1_048_577)?).is_none());
+    assert!(rt; Key::new(alloc, letters(alloc, 251)?.as_slice())?.is_none());
+    Ok(())
+}
+
+#[test]
+fn documents_have_a_limit(rt: HostRuntime) -> Result<(), Fail> {
+    let alloc = rt.alloc();
+    let too_long = letters(alloc, 1_048_577)?;
+    assert!(rt; Doc::new(alloc, too_long.as_slice())?.is_none());
+    assert!(rt; Doc::from_vec(too_long).is_none());
     let largest = Doc::from_vec(letters(alloc, 1_048_576)?).ok_or("no document")?;
     assert_eq!(rt; largest.copy(alloc)?.bytes().len(), 1_048_576);
     Ok(())
 }
 
-fn set(rt: &impl Abort, alloc: Global, plain: &mut Plain, name: &str) -> Result<Reply, Fail> {
+/// A call of a row. A set has the document `x`.
+#[derive(Clone, Copy, Debug)]
+enum Step {
+    Set(&'static str),
+    Get(&'static str),
+    Feed(u64),
+    Mark,
+    Forget(u64),
+    Rollback(u64),
+    Clear,
+    Compact(u64),
+    Stats,
+}
+
+fn key(alloc: Global, name: &str) -> Result<Key, Fail> {
+    Ok(Key::new(alloc, name.as_bytes())?.ok_or("no key")?)
+}
+
+fn call_of(alloc: Global, step: Step) -> Result<Call, Fail> {
+    Ok(match step {
+        Step::Set(name) => Call::Set {
+            key: key(alloc, name)?,
+            doc: Doc::new(alloc, b"x")?.ok_or("no document")?,
+        },
+        Step::Get(name) => Call::Get {
+            key: key(alloc, name)?,
+        },
+        Step::Feed(epoch) => Call::Feed {
+            epoch,
+            after: 0,
+            limit: 5,
+        },
+        Step::Mark => Call::Mark,
+        Step::Forget(mark) => Call::Forget { mark },
+        Step::Rollback(to) => Call::Rollback { to },
+        Step::Clear => Call::Clear,
+        Step::Compact(through) => Call::Compact { through },
+        Step::Stats => Call::Stats,
+    })
+}
+
+/// A reply as text, in which bytes are numbers: 120 is `x`.
+fn text_of(alloc: Global, reply: &Reply) -> Result<String, Fail> {
+    Ok(match reply {
+        Reply::Found { seq, doc } => format!(in alloc; "Found {seq} {:?}", doc.bytes())?,
+        Reply::Feed { epoch, end, items } => {
+            format!(in alloc; "Feed {epoch} {end} {:?}", items.as_slice())?
+        }
+        other => format!(in alloc; "{other:?}")?,
+    })
+}
+
+/// The reply to a call that passes no limit.
+fn reply_to(rt: &impl Abort, alloc: Global, plain: &mut Plain, call: &Call) -> Result<Reply, Fail> {
     assert!(rt; plain.length() < 1000);
-    let call = Call::Set {
-        key: key(alloc, name)?,
-        doc: doc(alloc, "x")?,
-    };
-    Ok(plain.apply(alloc, &call)?)
-}
-
-fn mark(alloc: Global, plain: &mut Plain) -> Result<Reply, Fail> {
-    Ok(plain.apply(alloc, &Call::Mark)?)
-}
-
-fn forget(alloc: Global, plain: &mut Plain, mark: u64) -> Result<Reply, Fail> {
-    Ok(plain.apply(alloc, &Call::Forget { mark })?)
-}
-
-fn rollback(rt: &impl Abort, alloc: Global, plain: &mut Plain, to: u64) -> Result<Reply, Fail> {
     assert!(rt; plain.epoch() < 1000);
-    Ok(plain.apply(alloc, &Call::Rollback { to })?)
+    if let Call::Compact { through } = call {
+        assert!(rt; *through <= plain.length());
+    }
+    Ok(plain.apply(alloc, call)?)
 }
 
-fn get(alloc: Global, plain: &mut Plain, name: &str) -> Result<Reply, Fail> {
-    let call = Call::Get {
-        key: key(alloc, name)?,
-    };
-    Ok(plain.apply(alloc, &call)?)
+/// Makes the call and asserts that the reply is this one.
+fn expect(
+    rt: &impl Abort,
+    alloc: Global,
+    plain: &mut Plain,
+    step: Step,
+    reply: &str,
+) -> Result<(), Fail> {
+    let call = call_of(alloc, step)?;
+    let replied = reply_to(rt, alloc, plain, &call)?;
+    assert_eq!(rt; text_of(alloc, &replied)?.as_str(), reply, "{step:?}");
+    Ok(())
 }
 
-/// Sets of a, b, then a mark, sets of c, d, e, then a mark, and sets of f, g.
-fn marked_twice(rt: &impl Abort, alloc: Global) -> Result<Plain, Fail> {
+/// Makes these calls on an empty machine.
+fn expect_all(rt: &impl Abort, alloc: Global, rows: &[(Step, &str)]) -> Result<(), Fail> {
     let mut plain = Plain::new(alloc);
-    for name in ["a", "b"] {
-        set(rt, alloc, &mut plain, name)?;
+    for (step, reply) in rows {
+        expect(rt, alloc, &mut plain, *step, reply)?;
     }
-    let first = mark(alloc, &mut plain)?;
-    assert!(rt; matches!(first, Reply::Marked { mark: 2 }));
-    for name in ["c", "d", "e"] {
-        set(rt, alloc, &mut plain, name)?;
-    }
-    let second = mark(alloc, &mut plain)?;
-    assert!(rt; matches!(second, Reply::Marked { mark: 5 }));
-    for name in ["f", "g"] {
-        set(rt, alloc, &mut plain, name)?;
-    }
-    Ok(plain)
+    Ok(())
+}
+
+#[test]
+fn a_rollback_goes_to_a_mark_and_starts_an_epoch(rt: HostRuntime) -> Result<(), Fail> {
+    let empty = [
+        (Step::Mark, "Marked { mark: 0 }"),
+        (Step::Rollback(0), "Back { mark: 0, epoch: 1 }"),
+        (Step::Feed(0), "Epoch { epoch: 1 }"),
+        (Step::Feed(1), "Feed 1 0 []"),
+    ];
+    expect_all(&rt, rt.alloc(), &empty)?;
+    let marked_twice = [
+        (Step::Set("a"), "Seq { seq: 1 }"),
+        (Step::Mark, "Marked { mark: 1 }"),
+        (Step::Mark, "Marked { mark: 1 }"),
+        (Step::Rollback(1), "Back { mark: 1, epoch: 1 }"),
+        (Step::Get("a"), "Found 1 [120]"),
+    ];
+    expect_all(&rt, rt.alloc(), &marked_twice)?;
+    let unmarked = [(Step::Rollback(5), "Reset { least: None }")];
+    expect_all(&rt, rt.alloc(), &unmarked)
+}
+
+/// Sets of a, b, then a mark, sets of c, d, e, then a mark, and sets of f, g; then the two last calls.
+fn expect_after_marks(rt: &impl Abort, alloc: Global, last: [(Step, &str); 2]) -> Result<(), Fail> {
+    let [next, after] = last;
+    let rows = [
+        (Step::Set("a"), "Seq { seq: 1 }"),
+        (Step::Set("b"), "Seq { seq: 2 }"),
+        (Step::Mark, "Marked { mark: 2 }"),
+        (Step::Set("c"), "Seq { seq: 3 }"),
+        (Step::Set("d"), "Seq { seq: 4 }"),
+        (Step::Set("e"), "Seq { seq: 5 }"),
+        (Step::Mark, "Marked { mark: 5 }"),
+        (Step::Set("f"), "Seq { seq: 6 }"),
+        (Step::Set("g"), "Seq { seq: 7 }"),
+        next,
+        after,
+    ];
+    expect_all(rt, alloc, &rows)
 }
 
 #[test]
 fn a_rollback_goes_to_the_greatest_mark_that_is_low_enough(rt: HostRuntime) -> Result<(), Fail> {
-    let alloc = rt.alloc();
-    let mut plain = marked_twice(&rt, alloc)?;
-    let back = rollback(&rt, alloc, &mut plain, 6)?;
-    assert!(rt; matches!(back, Reply::Back { mark: 5, epoch: 1 }));
-    let next = set(&rt, alloc, &mut plain, "h")?;
-    assert!(rt; matches!(next, Reply::Seq { seq: 6 }));
-    let mut plain = marked_twice(&rt, alloc)?;
-    let reset = rollback(&rt, alloc, &mut plain, 1)?;
-    assert!(rt; matches!(reset, Reply::Reset { least: Some(2) }));
-    let kept = get(alloc, &mut plain, "f")?;
-    assert!(rt; matches!(kept, Reply::Found { seq: 6, .. }));
-    let mut plain = Plain::new(alloc);
-    let reset = rollback(&rt, alloc, &mut plain, 5)?;
-    assert!(rt; matches!(reset, Reply::Reset { least: None }));
-    Ok(())
+    let back = [
+        (Step::Rollback(6), "Back { mark: 5, epoch: 1 }"),
+        (Step::Set("h"), "Seq { seq: 6 }"),
+    ];
+    expect_after_marks(&rt, rt.alloc(), back)?;
+    let reset = [
+        (Step::Rollback(1), "Reset { least: Some(2) }"),
+        (Step::Get("f"), "Found 6 [120]"),
+    ];
+    expect_after_marks(&rt, rt.alloc(), reset)
 }
 
 #[test]
 fn sixteen_marks_are_kept(rt: HostRuntime) -> Result<(), Fail> {
     let alloc = rt.alloc();
     let mut plain = Plain::new(alloc);
-    for _ in 0..16 {
-        set(&rt, alloc, &mut plain, "a")?;
-        mark(alloc, &mut plain)?;
+    for seq in 1..=16 {
+        let set = format!(in alloc; "Seq {{ seq: {seq} }}")?;
+        expect(&rt, alloc, &mut plain, Step::Set("a"), set.as_str())?;
+        let marked = format!(in alloc; "Marked {{ mark: {seq} }}")?;
+        expect(&rt, alloc, &mut plain, Step::Mark, marked.as_str())?;
     }
-    let seq = set(&rt, alloc, &mut plain, "a")?;
-    assert!(rt; matches!(seq, Reply::Seq { seq: 17 }));
-    let full = mark(alloc, &mut plain)?;
-    assert!(rt; matches!(full, Reply::Full { kept: 16 }));
-    let forgot = forget(alloc, &mut plain, 3)?;
-    assert!(rt; matches!(forgot, Reply::Forgot { mark: 3 }));
-    let marked = mark(alloc, &mut plain)?;
-    assert!(rt; matches!(marked, Reply::Marked { mark: 17 }));
-    let none = forget(alloc, &mut plain, 3)?;
-    assert!(rt; matches!(none, Reply::NoMark { mark: 3 }));
+    let rows = [
+        (Step::Set("a"), "Seq { seq: 17 }"),
+        (Step::Mark, "Full { kept: 16 }"),
+        (Step::Forget(3), "Forgot { mark: 3 }"),
+        (Step::Mark, "Marked { mark: 17 }"),
+        (Step::Forget(3), "NoMark { mark: 3 }"),
+    ];
+    for (step, reply) in rows {
+        expect(&rt, alloc, &mut plain, step, reply)?;
+    }
     Ok(())
 }
 
@@ -129,47 +198,24 @@ fn sixteen_marks_are_kept(rt: HostRuntime) -> Result<(), Fail> {
 fn a_compaction_counts_the_first_places_and_a_clear_leaves_nothing(
     rt: HostRuntime,
 ) -> Result<(), Fail> {
-    let alloc = rt.alloc();
-    let mut plain = Plain::new(alloc);
-    for name in ["a", "b", "c", "a", "b", "c"] {
-        set(&rt, alloc, &mut plain, name)?;
-    }
-    assert_eq!(rt; plain.length(), 6);
-    let compacted = plain.apply(alloc, &Call::Compact { through: 6 })?;
-    assert!(rt;
-        matches!(
-            compacted,
-            Reply::Compacted {
-                through: 6,
-                keys: 3,
-                bytes: 6
-            }
-        )
-    );
-    let stats = plain.apply(alloc, &Call::Stats)?;
-    assert!(rt;
-        matches!(
-            stats,
-            Reply::Stats {
-                length: 6,
-                live: 3,
-                bytes: 3,
-                marks: 0,
-                epoch: 0
-            }
-        )
-    );
-    assert!(rt; plain.epoch() < 1000);
-    let cleared = plain.apply(alloc, &Call::Clear)?;
-    assert!(rt; matches!(cleared, Reply::Cleared { epoch: 1 }));
-    let none = get(alloc, &mut plain, "a")?;
-    assert!(rt; matches!(none, Reply::Absent));
-    let call = Call::Feed {
-        epoch: 0,
-        after: 0,
-        limit: 5,
-    };
-    let epoch = plain.apply(alloc, &call)?;
-    assert!(rt; matches!(epoch, Reply::Epoch { epoch: 1 }));
-    Ok(())
+    let rows = [
+        (Step::Set("a"), "Seq { seq: 1 }"),
+        (Step::Set("b"), "Seq { seq: 2 }"),
+        (Step::Set("c"), "Seq { seq: 3 }"),
+        (Step::Set("a"), "Seq { seq: 4 }"),
+        (Step::Set("b"), "Seq { seq: 5 }"),
+        (Step::Set("c"), "Seq { seq: 6 }"),
+        (
+            Step::Compact(6),
+            "Compacted { through: 6, keys: 3, bytes: 6 }",
+        ),
+        (
+            Step::Stats,
+            "Stats { length: 6, live: 3, bytes: 3, marks: 0, epoch: 0 }",
+        ),
+        (Step::Clear, "Cleared { epoch: 1 }"),
+        (Step::Get("a"), "Absent"),
+        (Step::Set("b"), "Seq { seq: 1 }"),
+    ];
+    expect_all(&rt, rt.alloc(), &rows)
 }
