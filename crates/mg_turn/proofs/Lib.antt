@@ -1,3 +1,5 @@
 pub mod Lists
 pub mod Views
 pub mod Moves
+pub mod Crossing
+pub mod Tallies

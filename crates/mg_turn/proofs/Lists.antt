@@ -1,5 +1,5 @@
 -- Beginnings of one list, lists read by place, sums over them, and the calls in a history.
-use Rattle.std.proofs.Common.{◌≡◌, ◌≢◌, ◌⊎◌, ℕ, zero, suc, ◌+◌, ◌≤◌, ◌<◌, List, [], ◌∷◌, ◌++◌, Bool, true, false, cond, eqb, ltb, map, length, set, refl, ap, sym, subst, ◌∙◌, arith, append_assoc, length-append, inl, inr, ⊎_elim, filter, ne_eqb}
+use Rattle.std.proofs.Common.{◌≡◌, ◌≢◌, ◌⊎◌, ℕ, zero, suc, ◌+◌, ◌≤◌, ◌<◌, List, [], ◌∷◌, ◌++◌, Bool, true, false, cond, eqb, ltb, map, length, set, refl, ap, sym, ◌∙◌, arith, append_assoc, length-append, ⊎_elim, filter, ne_eqb}
 use Rattle.std.proofs.lemmas.List.Elements.{filter-append}
 use mathlib.Core.List.{map-append}
 use mathlib.Core.Option.{some, some-injective, some-ne-none}

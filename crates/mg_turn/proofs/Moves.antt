@@ -1,5 +1,5 @@
 -- Each step on a turn's table keeps the rule.
-use Rattle.std.proofs.Common.{◌≡◌, ◌≢◌, ◌⊎◌, ℕ, zero, suc, ◌+◌, ◌≤◌, ◌<◌, List, [], ◌∷◌, ◌++◌, Bool, true, false, cond, eqb, length, set, get_or, refl, ap, sym, subst, ◌∙◌, arith, inl, inr, ⊎_elim, length-append, ne_eqb}
+use Rattle.std.proofs.Common.{◌≡◌, ◌≢◌, ◌⊎◌, ℕ, ◌+◌, ◌≤◌, ◌<◌, List, [], ◌∷◌, ◌++◌, Bool, true, false, cond, eqb, length, set, get_or, refl, ap, sym, subst, ◌∙◌, arith, inl, inr, ⊎_elim, length-append, ne_eqb}
 use mathlib.Core.Option.{Option, some, none, some-injective}
 use mathlib.Core.Logic.{dite}
 use native.Mathlib.Decide.{ℕ_discrete}
@@ -7,8 +7,8 @@ use borrow.Author.Tests.{eq-eqb}
 use lib.ListN.{get_elem?}
 use prog.Atomic.{either}
 use Rattle.std.specs.declared.snapshot.Snapshot.{Snapshot}
-use Rattle.atomic_table.specs.Table.{State, Me, Step, step, Act, keeps, takes, gives, chain, Valid, stepped, carried_after, Allows, Splits, Joins, Seen, Final, opening}
-use Rattle.atomic_table.proofs.Lists.{at_set, set_again, set_else, at_longer}
+use Rattle.atomic_table.specs.Table.{State, Me, step, Act, keeps, takes, gives, Valid, stepped, carried_after, Allows, Splits, Joins, Seen, Final, opening}
+use Rattle.atomic_table.proofs.Lists.{set_again, set_else, at_longer}
 use Rattle.mg_turn.specs.declared.state.Counts.{Counts}
 use Rattle.mg_turn.specs.declared.rule.Hold.{Hold}
 use Rattle.mg_turn.specs.declared.rule.Hold.TheVariants.{Free, Out, Home}
@@ -16,9 +16,9 @@ use Rattle.mg_turn.specs.declared.rule.View.{View}
 use Rattle.mg_turn.specs.declared.rule.Slot.{Slot}
 use Rattle.mg_turn.specs.declared.rule.Slot.TheVariants.{Empty, Full, Note}
 use Rattle.mg_turn.specs.declared.rule.Opening.{Opening}
-use Rattle.mg_turn.specs.History.{IsPrefix, calls_by, longer, shorter, total, times_among, AreCalls, NoOthers, calls_in}
-use Rattle.mg_turn.specs.Rule.{NotAbove, greater, whole, if_live, own, times_in, givers_in, EachLive, Fits, IsQuiet, opening_view, nobody, splitter, new_caller, keepsake, joined, entered, taken, IsKept, IsFree, SlotOf, IsHeld, Holds, took, put_back, took_back, learned, counted, gave, HasClosed}
-use Rattle.mg_turn.proofs.Lists.{prefix_self, prefix_shorter, prefix_length, set_at, total_two, total_only, all_counted}
+use Rattle.mg_turn.specs.History.{IsPrefix, calls_by, total, times_among, AreCalls, NoOthers, calls_in}
+use Rattle.mg_turn.specs.Rule.{NotAbove, whole, if_live, own, times_in, EachLive, Fits, IsQuiet, opening_view, nobody, splitter, new_caller, keepsake, joined, entered, taken, IsKept, IsFree, SlotOf, IsHeld, Holds, took, put_back, took_back, learned, counted, gave, HasClosed}
+use Rattle.mg_turn.proofs.Lists.{prefix_self, prefix_shorter, set_at, total_two, total_only, all_counted}
 use Rattle.mg_turn.proofs.Views.{live_count, none_if, not_above_self, not_above_trans, greater_not_above, each_set, each_snoc, kept_set, kept_entered, kept_split, kept_kept, kept_joined}
 
 module _ {T E : Type 0} (stands : ℕ → List (ℕ × E) → T → Type 0) (counts : T → Counts) (o : Opening T) where

@@ -1,17 +1,16 @@
 -- What stays of the rule when one view changes, when a view is cut in two, and when two become one.
 use Rattle.std.proofs.Common.{◌≡◌, ◌≢◌, ◌⊎◌, ℕ, zero, suc, ◌+◌, ◌-◌, ◌≤◌, ◌<◌, max, List, [], ◌∷◌, ◌++◌, Bool, true, false, cond, eqb, ltb, length, set, refl, ap, sym, subst, ◌∙◌, arith, inl, inr, ⊎_elim, append-nil, le_refl}
-use mathlib.Core.Option.{some, some-injective, some-ne-none}
+use mathlib.Core.Option.{some, some-injective}
 use mathlib.Core.Logic.{dite}
 use native.Mathlib.Decide.{ℕ_discrete}
-use borrow.Author.Tests.{eqb-true, eqb-false, eq-eqb}
+use borrow.Author.Tests.{eqb-true, eq-eqb}
 use lib.ListN.{get_elem?}
-use Rattle.atomic_table.proofs.Lists.{at_set, set_else, at_longer, at_last, at_snoc}
+use Rattle.atomic_table.proofs.Lists.{at_set, set_else, at_longer, at_snoc}
 use Rattle.mg_turn.specs.declared.state.Counts.{Counts}
-use Rattle.mg_turn.specs.declared.rule.Hold.TheVariants.{Free, Out, Home}
 use Rattle.mg_turn.specs.declared.rule.View.{View}
-use Rattle.mg_turn.specs.History.{IsPrefix, calls_by, longer, shorter, total, times_among, AreCalls, NoOthers, calls_in}
-use Rattle.mg_turn.specs.Rule.{NotAbove, greater, whole, if_live, at_most_one, own, times_in, givers_in, EachLive, Fits, IsQuiet, nobody, splitter, new_caller, keepsake, joined, entered, IsKept}
-use Rattle.mg_turn.proofs.Lists.{prefix_self, prefix_more, prefix_shorter, prefix_whole, prefix_length, of_either, longer_whole, set_at, total-append, total_set, total_at, total_two, total_only, calls_by-append, calls_more}
+use Rattle.mg_turn.specs.History.{IsPrefix, calls_by, total, times_among, AreCalls}
+use Rattle.mg_turn.specs.Rule.{NotAbove, greater, if_live, at_most_one, own, times_in, givers_in, EachLive, Fits, nobody, splitter, new_caller, keepsake, joined, entered, IsKept}
+use Rattle.mg_turn.proofs.Lists.{prefix_self, prefix_more, of_either, longer_whole, set_at, total-append, total_set, total_at, total_two, calls_more}
 
 pub live_count : (p n : ℕ) → 0 < p → if_live p n ≡ n
 live_count zero n h = absurd (omega arith)

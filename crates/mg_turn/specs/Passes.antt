@@ -1,9 +1,9 @@
 -- What contracts see of a pass.
-use Rattle.std.specs.Prelude.{◌≡◌, ℕ, ◌<◌, ◌+◌, List, [], ◌∷◌, ◌++◌, Bool, true, false, max, length}
+use Rattle.std.specs.Prelude.{◌≡◌, ◌⊎◌, ℕ, ◌<◌, ◌≤◌, ◌+◌, ◌-◌, ◌^◌, List, [], ◌∷◌, ◌++◌, Bool, true, false, max, length}
 use Rattle.std.specs.Prelude.{refl}
 use Rattle.std.specs.Coded.{Coded, code_by, coded_ℕ, coded_bool, coded_list, coded×}
 use Rattle.atomic_table.specs.Seated.{TableId, table_id_coded}
-use Rattle.mg_turn.specs.History.{longer}
+use Rattle.mg_turn.specs.History.{IsPrefix, longer}
 
 -- the turn that it is of, that turn's first number, the caller with its own calls and those of the callers that it met, the history that it has seen,
 -- the greatest counts that it has seen, its parts of the right to close the turn, the number of the next caller that it can make (0 where it can make none), and whether it holds the turn
@@ -57,6 +57,13 @@ module _ {E : Type 0} where
   abbrev pub met_with : PassState E → PassState E → PassState E
   met_with p q = record p { met = p.met ++ own_calls q; seen = longer p.seen q.seen; faults = max p.faults q.faults; synced = max p.synced q.synced; parts = p.parts + q.parts; next = max p.next q.next }
 
+  -- p once its caller entered an entry, behind all that stood before it
+  pub record HasEntered (p q : PassState E) (entry : E) : Type 0 where
+    pub before : List (ℕ × E)
+    pub begins : IsPrefix p.seen before
+    pub seen : q.seen ≡ before ++ (p.caller, entry) ∷ []
+    pub rest : q ≡ record p { calls = p.calls ++ entry ∷ []; seen = q.seen; faults = q.faults; synced = q.synced }
+
   -- a pass once its caller made so many calls
   pub record AfterCalls (turn : TableId) (p q : PassState E) (count : ℕ) : Type 0 where
     pub waits : IsWaiting turn q
@@ -64,3 +71,7 @@ module _ {E : Type 0} where
     pub caller : q.caller ≡ p.caller
     pub met : q.met ≡ p.met
     pub parts : q.parts ≡ p.parts
+
+  -- so many entries were entered as were to be, or fewer, since the history was full
+  abbrev pub IsDoneOrFull : ℕ → PassState E → ℕ → Type 0
+  IsDoneOrFull times p entered = (entered ≡ times) ⊎ ((entered < times) × (2 ^ 62 - 1 ≤ length p.seen))

@@ -8,6 +8,7 @@ mod passes;
 mod rule;
 mod state;
 mod steps;
+pub mod tally;
 mod turns;
 
 pub use passes::Pass;

@@ -1,7 +1,6 @@
-use Rattle.std.proofs.Common.{sym, ◌∙◌, ◌≡◌, subst}
+use Rattle.std.proofs.Common.{◌≡◌, subst}
 use Rattle.mg_turn.proofs.Moves.{shows}
 use Rattle.mg_turn.specs.Rule.{counts_of, HasClosed}
-use Rattle.mg_turn.specs.declared.rule.Slot.TheVariants.{Full}
 use Rattle.mg_turn.proofs.steps.close_table.Goals as goal
 
 pub into_state-state-requires : goal.into_state-state-requires

@@ -1,4 +1,4 @@
-use Rattle.std.proofs.Common.{arith, rules}
+use Rattle.std.proofs.Common.{arith}
 use Rattle.mg_turn.proofs.Moves.{enters}
 use Rattle.mg_turn.specs.Rule.{counts_of}
 use Rattle.mg_turn.proofs.steps.count.Goals as goal

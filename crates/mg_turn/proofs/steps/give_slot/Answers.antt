@@ -1,4 +1,4 @@
-use Rattle.std.proofs.Common.{arith, rules, ◌≡◌, ◌∷◌, [], ap, ◌∙◌}
+use Rattle.std.proofs.Common.{arith, ◌≡◌, ◌∷◌, [], ap, ◌∙◌}
 use Rattle.atomic_table.specs.Table.{rest}
 use Rattle.mg_turn.specs.declared.rule.Slot.TheVariants.{Full}
 use Rattle.mg_turn.proofs.Moves.{empty_comes, full_goes}

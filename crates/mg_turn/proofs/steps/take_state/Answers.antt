@@ -1,10 +1,7 @@
-use Rattle.std.proofs.Common.{arith, rules, ◌≡◌, ◌∷◌, [], ap, sym, ◌∙◌, subst, ◌<◌, ℕ, List}
+use Rattle.std.proofs.Common.{arith, rules, ◌≡◌, ◌∷◌, [], ap, sym, ◌∙◌, subst, ◌<◌}
 use Rattle.atomic_table.specs.Table.{rest}
 use Rattle.mg_turn.proofs.Moves.{empty_goes}
 use Rattle.mg_turn.specs.Rule.{counts_of}
-use Rattle.mg_turn.specs.declared.rule.Slot.{Slot}
-use Rattle.mg_turn.specs.declared.rule.View.{View}
-use Rattle.mg_turn.specs.declared.rule.Hold.TheVariants.{Out}
 use Rattle.mg_turn.specs.declared.rule.Slot.TheVariants.{Full, Empty}
 use Rattle.mg_turn.proofs.steps.take_state.Goals as goal
 

@@ -1,7 +1,6 @@
-use Rattle.std.proofs.Common.{◌≡◌, List, [], ◌∷◌, ◌++◌, ap, sym, subst, ◌∙◌}
+use Rattle.std.proofs.Common.{◌≡◌, [], ◌∷◌, ◌++◌, ap, sym, subst, ◌∙◌}
 use Rattle.atomic_table.specs.Table.{opening}
 use Rattle.mg_turn.specs.Rule.{Holds, opening_view, counts_of}
-use Rattle.mg_turn.specs.declared.rule.Slot.{Slot}
 use Rattle.mg_turn.specs.declared.rule.Slot.TheVariants.{Full}
 use Rattle.mg_turn.proofs.Moves.{opens}
 use Rattle.mg_turn.proofs.turns.Turn.new.Goals as goal
