@@ -1,3 +1,5 @@
+pub mod FillingLaws
+pub mod FootLaws
 pub mod ReadingLaws
 pub mod WritingLaws
 pub mod WrittenLaws

@@ -1,5 +1,5 @@
 -- A piece of a file that is enough of it is judged as what is left of the file.
-use Rattle.std.proofs.Common.{◌≡◌, ℕ, ◌+◌, ◌<◌, ◌≤◌, ◌⊎◌, List, ◌++◌, length, take, drop, refl, sym, ap, ◌∙◌, arith, inl, inr, ltb, eqb, true, false, Bool, cond, Result, Ok, Err}
+use Rattle.std.proofs.Common.{◌≡◌, ℕ, ◌+◌, ◌<◌, ◌≤◌, ◌⊎◌, List, ◌++◌, length, take, drop, refl, sym, ap, ◌∙◌, arith, inl, inr, ltb, eqb, true, false, Bool, cond, Result, Ok, Err, MatchResult}
 use Rattle.std.proofs.lemmas.List.{take-append-le, drop-append-le, take-append-drop, length-append, length-drop, drop-drop, take_all, length-take-le}
 use Rattle.std.proofs.lemmas.Bool.{lt-ltb, le-ltb, eq-eqb, ne_eqb, cases_lt, cases_eq}
 use Rattle.std.specs.Prelude.{slice_range}
@@ -9,6 +9,7 @@ use Rattle.mg_frame.specs.declared.frame.Taken.TheVariants.{Whole, End, Short, N
 use Rattle.mg_model.specs.declared.faults.Fault.{Fault}
 use Rattle.mg_model.specs.declared.faults.Fault.TheVariants.{Damaged}
 use Rattle.mg_model.specs.declared.faults.FileId.{FileId}
+use Rattle.mg_sealed.specs.Answers.{Answers}
 use Rattle.mg_sealed.specs.Reading.{body_or_damage, frame_body, needed, IsEnough}
 
 -- ---- the answer by the bytes that are left
@@ -65,7 +66,7 @@ said_length-front : (piece rest : List ℕ) → 4 ≤ length piece → said_leng
 unfolding said_length
 said_length-front piece rest enough = ap big_endian_value (take-append-le 4 piece rest enough)
 
-said_number-front : (piece rest : List ℕ) → 12 ≤ length piece → said_number (piece ++ rest) ≡ said_number piece
+pub said_number-front : (piece rest : List ℕ) → 12 ≤ length piece → said_number (piece ++ rest) ≡ said_number piece
 unfolding said_number
 said_number-front piece rest enough =
     ap (λ xs. big_endian_value (take 8 xs)) (drop-append-le 4 piece rest (omega arith))
@@ -175,6 +176,11 @@ piece_says id at number bytes piece is =
     ∙ enough_same id at (length bytes) number (drop at bytes) piece is
     ∙ sym (taken_by_length id at (length bytes) number 0 piece)
 
+-- an answer that is what a definition says is an answer to it
+pub answers_by : (r a b : Result (List ℕ) Fault) → a ≡ b → MatchResult r (λ x. b ≡ Ok x) (λ fault. b ≡ Err fault) → Answers a r
+answers_by (Ok x) a b same is = same ∙ is
+answers_by (Err fault) a b same is = inr (same ∙ is)
+
 -- ---- how much a frame needs
 
 pub short_needs : (bytes : List ℕ) (number want have : ℕ) → taken bytes 0 number ≡ Short want have → want ≡ needed bytes
@@ -202,7 +208,7 @@ short_needs bytes number want have is = elim (cases_eq (length bytes) 0) [
 
 -- ---- what is read is enough
 
-needed-least : (bytes : List ℕ) → 12 ≤ needed bytes
+pub needed-least : (bytes : List ℕ) → 12 ≤ needed bytes
 needed-least bytes = elim (cases_lt (length bytes) 12) [
   | inl few ↦ omega (arith, needed-few bytes few)
   | inr header ↦ omega (arith, needed-header bytes header)

@@ -6,12 +6,13 @@
 #![tactic(auto)]
 
 mod errors;
+pub mod laws;
 mod reading;
 #[cfg(test)]
 mod tests;
 mod writing;
 
-pub use reading::{Frame, SealedFile, checked_number, open_sealed, read_frame};
+pub use reading::{Frame, SealedFile, checked_number, open_sealed, read_foot, read_frame};
 pub use writing::{
     FrameWriter, Placed, append_frame, seal_frames, start_frames, written_frame_is_read,
 };

@@ -1,14 +1,15 @@
 //! Frames of a sealed file.
 
-ghost use Rattle.std.specs.Prelude.{◌≡◌, ◌+◌, ◌<◌, ◌≤◌, ◌^◌, ◌⊎◌, length, take, drop, IfOk, IfErr, IfSome, MatchResult, Ok, Err};
+ghost use Rattle.std.specs.Prelude.{◌≡◌, ◌+◌, ◌-◌, ◌<◌, ◌≤◌, ◌^◌, ◌⊎◌, length, take, drop, IfOk, IfErr, IfSome, MatchResult, Ok, Err};
 ghost use Rattle.mg_faults.specs.Causes.{HasCause};
-ghost use Rattle.mg_frame.specs.Frame.{taken};
+ghost use Rattle.mg_frame.specs.Frame.{said_number, taken};
 ghost use Rattle.mg_sealed.specs.Answers.{Answers, IsOutside};
+ghost use Rattle.mg_sealed.specs.Foot.{foot_body, judged_foot, said_blocks};
 ghost use Rattle.mg_sealed.specs.Reading.{body_or_damage, checked_number, frame_body, needed, opened, IsDamageAt, IsEnough};
 
 use crate::errors::read_fault;
 use mg_disk::Files;
-use mg_frame::{FRAME_OVERHEAD, Taken, get_u32, take_frame};
+use mg_frame::{FRAME_OVERHEAD, Taken, get_u32, get_u64, take_frame};
 use mg_model::{Fault, FileId};
 use std::alloc::Global;
 use std::marker::Model;
@@ -116,6 +117,34 @@ pub fn read_frame<F: Files>(
     judge(file.id, at, file.len, number, bytes)
 }
 
+/// Reads the foot, the frame that ends the file, and judges it: first whether it is whole, then the length of its body,
+/// then its number. The whole frame has `size` bytes, and its body ends in the number of the file's blocks (u32); behind
+/// these stand `others` more frames, and then the foot. A body of another length is malformed. It takes memory for the frame.
+pub fn read_foot<F: Files>(
+    alloc: Global,
+    port: &mut F,
+    file: &SealedFile<F::Sealed>,
+    size: u64,
+    others: u64,
+) -> Result<Frame, Fault>
+    requires size { 24 ≤ size }
+    requires within { size ≤ file.now.len }
+    requires place { file.now.len < 2 ^ 62 }
+    requires others { others < 2 ^ 32 }
+    ensures told { IfSome (F.told file.now.file) (λ bytes. file.now.len ≡ length bytes →
+        Answers (foot_body file.now.id bytes size others) result) }
+    ensures len { IfOk result (λ body. length body + 20 ≡ size) }
+    ensures refusals { IfErr result (λ fault. IsOutside fault ⊎ IsDamageAt file.now.id (file.now.len - size) fault
+        ⊎ (fault ≡ Fault.Malformed file.now.id (file.now.len - size))) }
+    ensures cause { HasCause Fault.ReadFault (F.faults port.old) (F.faults port.new) result }
+{
+    let at = file.len - size;
+    let bytes = read_enough(alloc, port, file, at, size as usize)?;
+    let stored = stored_number(&bytes);
+    let foot = judge(file.id, at, file.len, stored, bytes)?;
+    judge_foot(file.id, at, size, others, stored, foot)
+}
+
 /// A number that was read from a file at a place, which is damaged there where it is 2^62 or more.
 pub fn checked_number(file: FileId, at: u64, number: u64) -> Result<u64, Fault>
     ensures { result ≡ checked_number file at number }
@@ -196,6 +225,54 @@ fn judge(id: FileId, at: u64, len: u64, number: u64, bytes: Vec<u8>) -> Result<F
         Taken::Number { kept, asked } => Err(damaged(id, at, kept, asked)),
         Taken::Torn { kept, found } => Err(damaged(id, at, kept, found)),
     }
+}
+
+/// The number that stands in the frame which the bytes begin.
+#[tactic(auto, unfolding(mg_frame::specs::BigEndian::front_number, mg_frame::specs::Frame::said_number))]
+fn stored_number(bytes: &[u8]) -> u64
+    ensures { 12 ≤ length bytes.now → result ≡ said_number bytes.now }
+{
+    if bytes.len() < HEADER {
+        return 0;
+    }
+    get_u64(bytes, 4).unwrap_or(0)
+}
+
+/// How many blocks a foot's body says.
+#[tactic(auto, unfolding(crate::specs::Foot::said_blocks, mg_frame::specs::BigEndian::front_number))]
+fn said_blocks(body: &[u8]) -> u32
+    requires { 4 ≤ length body.now }
+    ensures { result ≡ said_blocks body.now }
+{
+    get_u32(body, body.len() - 4).unwrap_or(0)
+}
+
+/// Judges a foot that is whole and has the number `stored`, and stands at a place of a file.
+fn judge_foot(
+    id: FileId,
+    at: u64,
+    size: u64,
+    others: u64,
+    stored: u64,
+    foot: Frame,
+) -> Result<Frame, Fault>
+    requires size { 24 ≤ size }
+    requires others { others < 2 ^ 32 }
+    ensures judged { MatchResult result
+        (λ body. judged_foot id at size others stored (Ok foot) ≡ Ok body)
+        (λ fault. judged_foot id at size others stored (Ok foot) ≡ Err fault) }
+    ensures len { IfOk result (λ body. length body + 20 ≡ size) }
+    ensures refusals { IfErr result (λ fault. IsDamageAt id at fault ⊎ (fault ≡ Fault.Malformed id at)) }
+{
+    let body = foot.body();
+    if body.len() as u64 + FRAME_OVERHEAD as u64 != size {
+        return Err(Fault::Malformed { file: id, at });
+    }
+    let asked = u64::from(said_blocks(body)) + others;
+    if stored != asked {
+        return Err(damaged(id, at, stored, asked));
+    }
+    Ok(foot)
 }
 
 /// The fault of two numbers that a file keeps at a place, and that don't agree.

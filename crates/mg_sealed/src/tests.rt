@@ -124,6 +124,54 @@ fn lengths_are_judged_first(rt: HostRuntime) -> Result<(), Fail> {
     Ok(())
 }
 
+/// A foot with number 1 behind one block. Its digest was computed with another program.
+const FOOT: [u8; 24] = [
+    0, 0, 0, 4, 0, 0, 0, 0, 0, 0, 0, 1, 0, 0, 0, 1, 0xf2, 0xe2, 0x86, 0x31, 0x21, 0x43, 0x2d, 0x70,
+];
+
+/// The body of the foot of a file of these bytes, whose frame has `size` bytes and stands behind one block and `others`.
+fn foot(alloc: Global, bytes: &[u8], size: u64, others: u64) -> Result<Vec<u8>, Fault> {
+    let mut port = MemFiles::new(Vec::new(alloc));
+    let Ok(file) = seal(alloc, &mut port, bytes) else {
+        return Err(Fault::WriteFault);
+    };
+    let file = open_sealed(alloc, &mut port, ID, file, bytes.len() as u64, size)?;
+    if size < 24 || others >= 1 << 32 || file.len >= 1 << 62 {
+        return Err(Fault::BadWords);
+    }
+    Ok(read_foot(alloc, &mut port, &file, size, others)?.into_body())
+}
+
+#[test]
+fn a_foot_is_judged(rt: HostRuntime) -> Result<(), Fail> {
+    let alloc = rt.alloc();
+    assert_eq!(rt;
+        foot(alloc, &FOOT, 24, 0)?.as_slice(),
+        [0, 0, 0, 1].as_slice()
+    );
+    let mut behind = [0; 25];
+    behind[1..].copy_from_slice(&FOOT);
+    assert_eq!(rt;
+        foot(alloc, &behind, 24, 0)?.as_slice(),
+        [0, 0, 0, 1].as_slice()
+    );
+    // One frame more should stand before it.
+    assert_eq!(rt; foot(alloc, &FOOT, 24, 1).err(), Some(damaged(0, 1, 2)));
+    // A foot of another length.
+    behind[..24].copy_from_slice(&FOOT);
+    let malformed = Fault::Malformed { file: ID, at: 0 };
+    assert_eq!(rt; foot(alloc, &behind, 25, 0).err(), Some(malformed));
+    let mut torn = FOOT;
+    torn[15] = 2;
+    assert_eq!(rt;
+        foot(alloc, &torn, 24, 9).err(),
+        Some(damaged(0, 0xf2e2_8631_2143_2d70, 0x00cd_190f_e98a_7b36))
+    );
+    torn[3] = 5;
+    assert_eq!(rt; foot(alloc, &torn, 24, 0).err(), Some(damaged(0, 25, 24)));
+    Ok(())
+}
+
 /// The bytes of a file that is written frame by frame, through a port of which the call with this number fails.
 fn written(alloc: Global, failing: u64) -> Result<Vec<u8>, Fault> {
     let mut port = MemFiles::new(vec![in alloc; failing]?);

@@ -1,6 +1,6 @@
 //! Frames into a draft.
 
-ghost use Rattle.std.specs.Prelude.{◌≡◌, ◌+◌, ◌<◌, ◌^◌, ℕ, List, [], ◌∷◌, ◌++◌, length, IfOk, IfErr, IfSome, OnOk};
+ghost use Rattle.std.specs.Prelude.{◌≡◌, ◌+◌, ◌<◌, ◌^◌, ℕ, List, [], ◌∷◌, ◌++◌, length, IfOk, IfErr, IfSome, OnOk, OnErr};
 ghost use Rattle.mg_faults.specs.Causes.{HasCause};
 ghost use Rattle.mg_frame.specs.Frames.{numbered_frames};
 ghost use Rattle.mg_sealed.specs.Answers.{IsUnwritten};
@@ -91,6 +91,7 @@ pub fn append_frame<F: Files>(
     ensures placed { IfOk result (λ placed. placed ≡ record { at = writer.old.len; len = length body.now + 20 }) }
     ensures len { OnOk result (writer.new.len ≡ writer.old.len + length body.now + 20) }
     ensures count { OnOk result (writer.new.count ≡ writer.old.count + 1) }
+    ensures err { OnErr result ((writer.new.len ≡ writer.old.len) × (writer.new.count ≡ writer.old.count)) }
     ensures outside { IfErr result (λ fault. IsUnwritten fault) }
     ensures cause { HasCause Fault.WriteFault (F.faults port.old) (F.faults port.new) result }
 {

@@ -1,15 +1,10 @@
-use Rattle.std.proofs.Common.{length, drop, ◌≡◌, ℕ, List, sym, ap, ◌∙◌, Result, Ok, Err, inr, MatchResult}
+use Rattle.std.proofs.Common.{length, drop, ◌≡◌, ℕ, List, sym, ap, ◌∙◌}
 use Rattle.std.proofs.lemmas.Option.{IfSome_then}
 use Rattle.mg_frame.specs.Frame.{taken}
-use Rattle.mg_model.specs.declared.faults.Fault.{Fault}
 use Rattle.mg_sealed.specs.Answers.{Answers}
 use Rattle.mg_sealed.specs.Reading.{body_or_damage, frame_body, IsEnough}
-use Rattle.mg_sealed.proofs.ReadingLaws.{piece_says}
+use Rattle.mg_sealed.proofs.ReadingLaws.{answers_by, piece_says}
 use Rattle.mg_sealed.proofs.reading.read_frame.Goals as goal
-
-answers_by : (r a b : Result (List ℕ) Fault) → a ≡ b → MatchResult r (λ x. b ≡ Ok x) (λ fault. b ≡ Err fault) → Answers a r
-answers_by (Ok x) a b same is = same ∙ is
-answers_by (Err fault) a b same is = inr (same ∙ is)
 
 pub returns-clause-told : goal.returns-clause-told
 returns-clause-told g c =

@@ -1,0 +1,14 @@
+//! Laws of sealed files, for those who write and read one kind of them. Each function does nothing: its contract is the law.
+
+ghost use Rattle.mg_sealed.specs.Filling.{OneFilling};
+ghost use Rattle.mg_sealed.specs.Foot.{WrittenFootIsRead};
+
+/// Items are filled into blocks in one way.
+pub const fn one_filling<T>()
+    ensures { OneFilling T }
+{}
+
+/// The foot of a file that was written here is read, and is refused nowhere.
+pub const fn written_foot_is_read()
+    ensures { WrittenFootIsRead }
+{}
