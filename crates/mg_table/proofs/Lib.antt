@@ -1,0 +1,15 @@
+pub mod EntryLaws
+pub mod FieldLaws
+pub mod FilledLaws
+pub mod FilterLaws
+pub mod FindingLaws
+pub mod FinishLaws
+pub mod IndexLaws
+pub mod KnownLaws
+pub mod ListingLaws
+pub mod LoadingLaws
+pub mod PayloadLaws
+pub mod PlaceLaws
+pub mod ReadingLaws
+pub mod RefusalLaws
+pub mod WriterLaws

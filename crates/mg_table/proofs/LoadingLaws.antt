@@ -1,0 +1,317 @@
+-- The foot, the index and the filter of a table are those that a loader asks for.
+use Rattle.std.proofs.Common.{◌≡◌, ◌≢◌, ℕ, ◌+◌, ◌-◌, ◌*◌, ◌/◌, ◌<◌, ◌≤◌, ◌^◌, ◌⊎◌, suc, List, [], ◌∷◌, ◌++◌, length, map, take, drop, refl, sym, ap, ◌∙◌, subst, inl, inr, arith, append_assoc, Ok, Option}
+use Rattle.std.proofs.Math.Nat.{mod-eq_of_lt}
+use Rattle.std.proofs.lemmas.List.{length-append, length-map, drop_at, take_all}
+use Rattle.std.proofs.lemmas.List.Elements.{All-cons, All-head, All-nil, All-tail}
+use Rattle.std.proofs.lemmas.List.Sums.{sum_by-cons}
+use Rattle.std.specs.List.{All}
+use Rattle.mg_block.specs.Block.{Precedes, RiseAfter}
+use Rattle.mg_block.proofs.Order.{Precedes-trans}
+use Rattle.mg_block.proofs.Spelling.{length-items_after}
+use Rattle.mg_bloom.specs.Bloom.{IsBodyLength}
+use Rattle.mg_bloom.proofs.BloomLaws.{IsBodyLength-bits}
+use Rattle.mg_frame.specs.BigEndian.{big_endian, big_endian_value}
+use Rattle.mg_frame.specs.Frame.{frame}
+use Rattle.mg_frame.specs.Frames.{numbered_frames}
+use Rattle.mg_frame.proofs.BigEndianLaws.{length-big_endian, big_endian_value-big_endian}
+use Rattle.mg_frame.proofs.FrameLaws.{length-frame}
+use Rattle.mg_model.specs.declared.faults.FileId.{FileId}
+use Rattle.mg_sealed.specs.Filling.{Fits, AreFilled, items_of}
+use Rattle.mg_sealed.specs.Foot.{foot_body, said_blocks}
+use Rattle.mg_sealed.specs.Reading.{frame_body}
+use Rattle.mg_sealed.proofs.FootLaws.{written_foot_is_read}
+use Rattle.mg_sealed.proofs.WritingLaws.{numbered-more}
+use Rattle.mg_sealed.proofs.WrittenLaws.{written_frame_is_read}
+use Rattle.mg_table.specs.Entries.{block_body, pair_of, IsEntry}
+use Rattle.mg_table.specs.Filters.{IsFilterOf}
+use Rattle.mg_table.specs.Foot.{counts_bytes, foot_bytes, span_bytes, IsFoot}
+use Rattle.mg_table.specs.Index.{frame_length, index_bytes, places_from, AreNear, IsIndexFrom, IsPlace}
+use Rattle.mg_table.specs.Table.{foot_of, hashed_keys, sizes_of, table_bodies, IsTableOf, Stands}
+use Rattle.mg_table.specs.declared.entry.Entry.{Entry}
+use Rattle.mg_table.specs.declared.foot.Foot.{Foot}
+use Rattle.mg_table.specs.declared.index.BlockPlace.{BlockPlace}
+use Rattle.mg_table.specs.declared.table.Table.{Table}
+use Rattle.mg_table.proofs.EntryLaws.{length-payload_of, one-fits}
+use Rattle.mg_table.proofs.FinishLaws.{length-foot_bytes}
+use Rattle.mg_table.proofs.IndexLaws.{length-frames, length-index_bytes, total}
+
+-- ---- entries that rise
+
+-- the key of the last entry, or this one where there is none
+last_key : List ℕ → List Entry → List ℕ
+last_key key [] = key
+last_key key (entry ∷ entries) = last_key entry.key entries
+
+rise_front : (previous : List ℕ) (xs ys : List Entry) → RiseAfter previous (map pair_of (xs ++ ys)) → RiseAfter previous (map pair_of xs)
+rise_front previous [] ys rise = tt
+rise_front previous (x ∷ xs) ys rise = (rise.0, rise_front x.key xs ys rise.1)
+
+rise_behind : (previous : List ℕ) (xs ys : List Entry) → RiseAfter previous (map pair_of (xs ++ ys)) → RiseAfter (last_key previous xs) (map pair_of ys)
+unfolding last_key
+rise_behind previous [] ys rise = rise
+rise_behind previous (x ∷ xs) ys rise = rise_behind x.key xs ys rise.1
+
+-- one key is another, or stands before it
+abbrev IsUpTo : List ℕ → List ℕ → Type 0
+IsUpTo key other = (key ≡ other) ⊎ Precedes key other
+
+last_above : (key : List ℕ) (entries : List Entry) → RiseAfter key (map pair_of entries) → IsUpTo key (last_key key entries)
+unfolding last_key
+last_above key [] rise = inl refl
+last_above key (entry ∷ entries) rise = elim (last_above entry.key entries rise.1) [
+  | inl same ↦ inr (subst (λ (k : List ℕ). Precedes key k) same rise.0.rises)
+  | inr above ↦ inr (Precedes-trans key entry.key (last_key entry.key entries) rise.0.rises above)
+]
+
+above_both : (key previous next : List ℕ) → IsUpTo key previous → Precedes previous next → Precedes key next
+above_both key previous next (inl same) above = subst (λ (k : List ℕ). Precedes k next) (sym same) above
+above_both key previous next (inr below) above = Precedes-trans key previous next below above
+
+-- ---- bounds
+
+one_in_block : (previous : List ℕ) (xs : List Entry) → RiseAfter previous (map pair_of xs) → length xs ≡ 1 → length (block_body xs) ≤ 4096
+one_in_block previous [] rise one = absurd (omega (arith, one))
+one_in_block previous (x ∷ []) rise one = one-fits (pair_of x) rise.0.key (length-payload_of x)
+one_in_block previous (x ∷ (y ∷ xs)) rise one = absurd (omega (arith, one))
+
+-- a block's body has at most 4,096 bytes
+most_bytes : (previous : List ℕ) (xs : List Entry) → RiseAfter previous (map pair_of xs) → Fits block_body xs → length (block_body xs) ≤ 4096
+most_bytes previous xs rise fits = elim fits.small [
+  | inl small ↦ small
+  | inr one ↦ one_in_block previous xs rise one
+]
+
+pub most_in_frames : (previous : List ℕ) (blocks : List (List Entry)) → AreFilled block_body blocks → RiseAfter previous (map pair_of (items_of blocks))
+    → total blocks ≤ 4116 * length blocks
+most_in_frames previous [] filled rise = omega arith
+most_in_frames previous (b ∷ blocks) filled rise =
+    omega (
+      arith,
+      most_bytes previous b (rise_front previous b (items_of blocks) rise) filled.0,
+      most_in_frames (last_key previous b) blocks filled.2 (rise_behind previous b (items_of blocks) rise),
+    )
+
+-- each entry has a byte at least
+most_entries : (previous : List ℕ) (blocks : List (List Entry)) → AreFilled block_body blocks → RiseAfter previous (map pair_of (items_of blocks))
+    → length (items_of blocks) ≤ 4096 * length blocks
+most_entries previous [] filled rise = omega arith
+most_entries previous (b ∷ blocks) filled rise =
+    omega (
+      arith,
+      length-append b (items_of blocks),
+      length-map b pair_of,
+      length-items_after [] (map pair_of b),
+      most_bytes previous b (rise_front previous b (items_of blocks) rise) filled.0,
+      most_entries (last_key previous b) blocks filled.2 (rise_behind previous b (items_of blocks) rise),
+    )
+
+sizes_in_count : (entries : List Entry) → All IsEntry entries → sizes_of entries ≤ 1048826 * length entries
+sizes_in_count [] each = omega arith
+sizes_in_count (entry ∷ entries) each =
+    omega (
+      arith,
+      (All-head IsEntry entry entries each).size_to,
+      sum_by-cons (λ (e : Entry). e.size) entry entries,
+      sizes_in_count entries (All-tail IsEntry entry entries each),
+    )
+
+-- ---- the index
+
+pub length-places_from : (at : ℕ) (blocks : List (List Entry)) → length (places_from at blocks) ≡ length blocks
+length-places_from at [] = refl
+length-places_from at (b ∷ blocks) = ap suc (length-places_from (at + frame_length b) blocks)
+
+index_is : (key previous : List ℕ) (at : ℕ) (blocks : List (List Entry)) → IsUpTo key previous → AreFilled block_body blocks → RiseAfter previous (map pair_of (items_of blocks))
+    → at + 4116 * length blocks < 2 ^ 62 → IsIndexFrom key at (places_from at blocks) (at + total blocks)
+index_is key previous at [] up filled rise room = omega arith
+index_is key previous at ([] ∷ blocks) up filled rise room = absurd (filled.0.some refl)
+index_is key previous at ((x ∷ b) ∷ blocks) up filled rise room =
+    let small = most_bytes previous (x ∷ b) (rise_front previous (x ∷ b) (items_of blocks) rise) filled.0 in
+    let later = at + frame_length (x ∷ b) in
+    let rest : IsIndexFrom x.key later (places_from later blocks) (later + total blocks) =
+    index_is x.key (last_key x.key b) later blocks (last_above x.key b (rise_front x.key b (items_of blocks) rise.1)) filled.2
+    (rise_behind x.key b (items_of blocks) rise.1) (omega (arith, small, room)) in
+    let ends : later + total blocks ≡ at + total ((x ∷ b) ∷ blocks) = omega arith in (
+      above_both key previous x.key up rise.0.rises,
+      rise.0.key,
+      refl,
+      omega (arith, room),
+      omega (arith, small),
+      subst (λ end. IsIndexFrom x.key later (places_from later blocks) end) ends rest,
+    )
+
+pub places_fit : (key : List ℕ) (at : ℕ) (places : List BlockPlace) (end : ℕ) → IsIndexFrom key at places end → All IsPlace places
+places_fit key at [] end is = All-nil IsPlace
+places_fit key at (place ∷ places) end is = All-cons IsPlace place places (record { key = is.1 }) (places_fit place.key (at + place.len) places end is.5)
+
+pub places_near : (key : List ℕ) (at : ℕ) (places : List BlockPlace) (end : ℕ) → IsIndexFrom key at places end → AreNear places
+places_near key at [] end is = All-nil (λ (p : BlockPlace). p.at < 2 ^ 62)
+places_near key at (place ∷ places) end is =
+    All-cons (λ (p : BlockPlace). p.at < 2 ^ 62) place places (omega (arith, is.2, is.3)) (places_near place.key (at + place.len) places end is.5)
+
+-- ---- a table
+
+rises : (lo hi : ℕ) (entries : List Entry) (blocks : List (List Entry)) (filter : List ℕ) → IsTableOf lo hi entries blocks filter → RiseAfter [] (map pair_of (items_of blocks))
+rises lo hi entries blocks filter parts = subst (λ (es : List Entry). RiseAfter [] (map pair_of es)) (sym parts.whole) parts.rising.rising
+
+pub frames_end : (lo hi : ℕ) (entries : List Entry) (blocks : List (List Entry)) (filter : List ℕ) → IsTableOf lo hi entries blocks filter → total blocks ≤ 4116 * length blocks
+frames_end lo hi entries blocks filter parts = most_in_frames [] blocks parts.filled (rises lo hi entries blocks filter parts)
+
+pub index_of_table : (lo hi : ℕ) (entries : List Entry) (blocks : List (List Entry)) (filter : List ℕ) → IsTableOf lo hi entries blocks filter
+    → IsIndexFrom [] 0 (places_from 0 blocks) (foot_of lo hi blocks filter).index_at
+index_of_table lo hi entries blocks filter parts =
+    let ends : 0 + total blocks ≡ length (numbered_frames (map block_body blocks)) = omega (arith, length-frames blocks) in
+    subst (λ end. IsIndexFrom [] 0 (places_from 0 blocks) end) ends
+    (index_is [] [] 0 blocks (inl refl) parts.filled (rises lo hi entries blocks filter parts) (omega (arith, parts.few)))
+
+index_small : (lo hi : ℕ) (entries : List Entry) (blocks : List (List Entry)) (filter : List ℕ) → IsTableOf lo hi entries blocks filter
+    → length (index_bytes (places_from 0 blocks)) ≤ 263 * length blocks
+index_small lo hi entries blocks filter parts =
+    omega (
+      arith,
+      length-index_bytes (places_from 0 blocks) (places_fit [] 0 (places_from 0 blocks) _ (index_of_table lo hi entries blocks filter parts)),
+      length-places_from 0 blocks,
+    )
+
+pub filter_is_body : (hashed : List (List ℕ)) (filter : List ℕ) → IsFilterOf hashed filter → IsBodyLength (length filter)
+filter_is_body hashed filter is =
+    let same : 8 * length filter / 8 ≡ length filter = omega arith in
+    subst IsBodyLength same (IsBodyLength-bits (length hashed) (8 * length filter) is.size).0
+
+some_in_blocks : (blocks : List (List Entry)) → items_of blocks ≢ [] → (1 ≤ length blocks) × (1 ≤ length (items_of blocks))
+some_in_blocks [] some = absurd (some refl)
+some_in_blocks (b ∷ blocks) some = (omega arith, some_items (b ++ items_of blocks) some)
+  where
+    some_items : (entries : List Entry) → entries ≢ [] → 1 ≤ length entries
+    some_items [] none = absurd (none refl)
+    some_items (x ∷ entries) more = omega arith
+
+pub foot_of_is_foot : (lo hi : ℕ) (entries : List Entry) (blocks : List (List Entry)) (filter : List ℕ) → IsTableOf lo hi entries blocks filter → IsFoot (foot_of lo hi blocks filter)
+foot_of_is_foot lo hi entries blocks filter parts =
+    let rise = rises lo hi entries blocks filter parts in
+    let few = parts.few in
+    let most = most_entries [] blocks parts.filled rise in
+    let ends = frames_end lo hi entries blocks filter parts in
+    let some = some_in_blocks blocks (λ none. parts.some (sym parts.whole ∙ none)) in
+    record {
+      entries = omega (arith, most, few);
+      sizes = omega (arith, most, few, sizes_in_count (items_of blocks) (subst (λ (es : List Entry). All IsEntry es) (sym parts.whole) parts.rising.each));
+      lo = parts.from;
+      hi = parts.to;
+      index_at = omega (arith, ends, few, length-frames blocks);
+      filter_at = omega (arith, ends, few, length-frames blocks, index_small lo hi entries blocks filter parts);
+      blocks = omega (arith, few);
+      some_entries = some.1;
+      some_blocks = some.0;
+    }
+
+-- a foot says its number of blocks
+pub said_blocks-foot : (foot : Foot) → foot.blocks < 2 ^ 32 → said_blocks (foot_bytes foot) ≡ foot.blocks
+unfolding said_blocks foot_bytes
+said_blocks-foot foot fits =
+    let counts = counts_bytes foot ++ span_bytes foot in
+    let places = big_endian 8 foot.index_at ++ big_endian 8 foot.filter_at in
+    let front = counts ++ places in
+    let blocks = big_endian 4 foot.blocks in
+    let four = length-big_endian 4 foot.blocks in
+    let split : counts ++ (places ++ blocks) ≡ front ++ blocks = sym (append_assoc counts places blocks) in
+    let at : length (front ++ blocks) - 4 ≡ length front = omega (arith, length-append front blocks, four) in
+    let tail : drop (length (front ++ blocks) - 4) (front ++ blocks) ≡ blocks = ap (λ n. drop n (front ++ blocks)) at ∙ drop_at front blocks (length front) refl in
+    ap (λ (bytes : List ℕ). big_endian_value (take 4 (drop (length bytes - 4) bytes))) split
+    ∙ ap big_endian_value (ap (take 4) tail ∙ take_all 4 blocks (omega (arith, four)))
+    ∙ big_endian_value-big_endian 4 foot.blocks
+    ∙ mod-eq_of_lt fits
+
+-- ---- what stands before each frame
+
+before_filter : List (List Entry) → List (List ℕ)
+before_filter blocks = map block_body blocks ++ index_bytes (places_from 0 blocks) ∷ []
+
+count_before_filter : (blocks : List (List Entry)) → length (before_filter blocks) ≡ length blocks + 1
+unfolding before_filter
+count_before_filter blocks = omega (arith, length-append (map block_body blocks) (index_bytes (places_from 0 blocks) ∷ []), length-map blocks block_body)
+
+len_before_filter : (lo hi : ℕ) (blocks : List (List Entry)) (filter : List ℕ) → length (numbered_frames (before_filter blocks)) ≡ (foot_of lo hi blocks filter).filter_at
+unfolding before_filter
+len_before_filter lo hi blocks filter =
+    let before = map block_body blocks in
+    let index = index_bytes (places_from 0 blocks) in
+    omega (
+      arith,
+      ap length (numbered-more before index),
+      length-append (numbered_frames before) (frame (length before) index),
+      length-frame (length before) index,
+    )
+
+bodies_filter : (lo hi : ℕ) (blocks : List (List Entry)) (filter : List ℕ)
+    → table_bodies lo hi blocks filter ≡ before_filter blocks ++ filter ∷ foot_bytes (foot_of lo hi blocks filter) ∷ []
+unfolding before_filter
+bodies_filter lo hi blocks filter =
+    sym (append_assoc (map block_body blocks) (index_bytes (places_from 0 blocks) ∷ []) (filter ∷ foot_bytes (foot_of lo hi blocks filter) ∷ []))
+
+bodies_foot : (lo hi : ℕ) (blocks : List (List Entry)) (filter : List ℕ)
+    → table_bodies lo hi blocks filter ≡ (before_filter blocks ++ filter ∷ []) ++ foot_bytes (foot_of lo hi blocks filter) ∷ []
+bodies_foot lo hi blocks filter =
+    bodies_filter lo hi blocks filter ∙ sym (append_assoc (before_filter blocks) (filter ∷ []) (foot_bytes (foot_of lo hi blocks filter) ∷ []))
+
+-- the index
+pub reads_index : (id : FileId) (lo hi : ℕ) (entries : List Entry) (blocks : List (List Entry)) (filter : List ℕ) → IsTableOf lo hi entries blocks filter
+    → frame_body id (numbered_frames (table_bodies lo hi blocks filter)) (foot_of lo hi blocks filter).index_at (length blocks) ≡ Ok (index_bytes (places_from 0 blocks))
+reads_index id lo hi entries blocks filter parts =
+    let before = map block_body blocks in
+    let index = index_bytes (places_from 0 blocks) in
+    let many : length before ≡ length blocks = length-map blocks block_body in
+    let small = index_small lo hi entries blocks filter parts in
+    ap (λ (n : ℕ). frame_body id (numbered_frames (table_bodies lo hi blocks filter)) (length (numbered_frames before)) n) (sym many)
+    ∙ written_frame_is_read id before (filter ∷ foot_bytes (foot_of lo hi blocks filter) ∷ []) index (omega (arith, parts.few, many)) (omega (arith, parts.few, small))
+
+-- the filter
+pub reads_filter : (id : FileId) (lo hi : ℕ) (entries : List Entry) (blocks : List (List Entry)) (filter : List ℕ) → IsTableOf lo hi entries blocks filter
+    → frame_body id (numbered_frames (table_bodies lo hi blocks filter)) (foot_of lo hi blocks filter).filter_at (length blocks + 1) ≡ Ok filter
+reads_filter id lo hi entries blocks filter parts =
+    let before = before_filter blocks in
+    let foot = foot_bytes (foot_of lo hi blocks filter) in
+    let many = count_before_filter blocks in
+    ap (λ (bs : List (List ℕ)). frame_body id (numbered_frames bs) (foot_of lo hi blocks filter).filter_at (length blocks + 1)) (bodies_filter lo hi blocks filter)
+    ∙ ap (λ (at : ℕ). frame_body id (numbered_frames (before ++ filter ∷ foot ∷ [])) at (length blocks + 1)) (sym (len_before_filter lo hi blocks filter))
+    ∙ ap (λ (n : ℕ). frame_body id (numbered_frames (before ++ filter ∷ foot ∷ [])) (length (numbered_frames before)) n) (sym many)
+    ∙ written_frame_is_read id before (foot ∷ []) filter (omega (arith, parts.few, many)) (omega (arith, (filter_is_body (hashed_keys entries) filter parts.filtered).at_most))
+
+-- the foot
+pub reads_foot : (id : FileId) (lo hi : ℕ) (entries : List Entry) (blocks : List (List Entry)) (filter : List ℕ) → IsTableOf lo hi entries blocks filter
+    → foot_body id (numbered_frames (table_bodies lo hi blocks filter)) 73 2 ≡ Ok (foot_bytes (foot_of lo hi blocks filter))
+reads_foot id lo hi entries blocks filter parts =
+    let before = before_filter blocks ++ filter ∷ [] in
+    let foot = foot_bytes (foot_of lo hi blocks filter) in
+    let is_foot = foot_of_is_foot lo hi entries blocks filter parts in
+    let size : 73 ≡ length foot + 20 = omega (arith, length-foot_bytes (foot_of lo hi blocks filter)) in
+    let count : length before ≡ length blocks + 2 = omega (arith, length-append (before_filter blocks) (filter ∷ []), count_before_filter blocks) in
+    let many : length before ≡ said_blocks foot + 2 = omega (arith, count, said_blocks-foot (foot_of lo hi blocks filter) is_foot.blocks) in
+    ap (λ (bs : List (List ℕ)). foot_body id (numbered_frames bs) 73 2) (bodies_foot lo hi blocks filter)
+    ∙ ap (λ (n : ℕ). foot_body id (numbered_frames (before ++ foot ∷ [])) n 2) size
+    ∙ written_foot_is_read id before foot 2 (omega (arith, parts.few, count)) (omega (arith, length-foot_bytes (foot_of lo hi blocks filter))) many
+
+-- the length of a table's file
+pub file_ends : (lo hi : ℕ) (blocks : List (List Entry)) (filter : List ℕ)
+    → length (numbered_frames (table_bodies lo hi blocks filter)) ≡ (foot_of lo hi blocks filter).filter_at + (length filter + 20) + 73
+file_ends lo hi blocks filter =
+    let before = before_filter blocks in
+    let foot = foot_bytes (foot_of lo hi blocks filter) in
+    ap length (ap numbered_frames (bodies_foot lo hi blocks filter) ∙ numbered-more (before ++ filter ∷ []) foot)
+    ∙ length-append (numbered_frames (before ++ filter ∷ [])) (frame (length (before ++ filter ∷ [])) foot)
+    ∙ omega (
+      arith,
+      length-frame (length (before ++ filter ∷ [])) foot,
+      length-foot_bytes (foot_of lo hi blocks filter),
+      ap length (numbered-more before filter),
+      length-append (numbered_frames before) (frame (length before) filter),
+      length-frame (length before) filter,
+      len_before_filter lo hi blocks filter,
+    )
+
+-- each place of a table's index is below 2 ^ 62
+pub places_in_range : {S : Type 0} (told : S → Option (List ℕ)) (table : Table S) (entries : List Entry) → Stands told table entries → AreNear table.index
+places_in_range told table entries stands =
+    let lo = table.foot.lo in
+    let hi = table.foot.hi in
+    subst AreNear (sym stands.index) (places_near [] 0 (places_from 0 stands.blocks) _ (index_of_table lo hi entries stands.blocks table.filter stands.parts))

@@ -1,0 +1,213 @@
+-- What is read of a table's blocks.
+use Rattle.std.proofs.Common.{◌≡◌, ℕ, zero, suc, ◌+◌, ◌*◌, ◌<◌, ◌≤◌, ◌^◌, inl, inr, List, [], ◌∷◌, ◌++◌, length, get_or, take, drop, map, refl, sym, ap, subst, ◌∙◌, arith, append_assoc, Option, Some, None, IfSome, Result, Ok, Err, MatchResult}
+use Rattle.std.proofs.lemmas.Bool.{lt-ltb, eq-eqb}
+use Rattle.std.proofs.lemmas.List.{map-append, take-append-drop, take_more, length-map, length-take-le}
+use Rattle.std.proofs.lemmas.List.Elements.{All-cons, All-head, All-nil, All-tail}
+use Rattle.std.specs.List.{All}
+use Rattle.mg_block.specs.Block.{block_of, IsBlock, Precedes, RiseAfter}
+use Rattle.mg_block.proofs.Order.{Precedes-trans}
+use Rattle.mg_frame.specs.Frames.{numbered_frames}
+use Rattle.mg_model.specs.declared.faults.Fault.{Fault}
+use Rattle.mg_model.specs.declared.faults.Fault.TheVariants.{NoMemory}
+use Rattle.mg_model.specs.declared.faults.FileId.{FileId}
+use Rattle.mg_sealed.specs.Answers.{Answers, IsOutside}
+use Rattle.mg_sealed.specs.Filling.{Fits, AreFilled, items_of}
+use Rattle.mg_sealed.specs.Reading.{frame_body}
+use Rattle.mg_sealed.proofs.WrittenLaws.{written_frame_is_read}
+use Rattle.mg_table.specs.Entries.{block_body, pair_of, AreEntries, IsEntry}
+use Rattle.mg_table.specs.Foot.{foot_bytes}
+use Rattle.mg_table.specs.Index.{frame_length, index_bytes, places_from}
+use Rattle.mg_table.specs.Reading.{block_at}
+use Rattle.mg_table.specs.Table.{foot_of, table_bodies, Stands}
+use Rattle.mg_table.specs.declared.entry.Entry.{Entry}
+use Rattle.mg_table.specs.declared.index.BlockPlace.{BlockPlace}
+use Rattle.mg_table.specs.declared.table.Table.{Table}
+use Rattle.mg_table.proofs.EntryLaws.{length-payload_of, one-fits}
+use Rattle.mg_table.proofs.IndexLaws.{length-frames, place_behind, total}
+
+-- ---- the entries of one block
+
+RiseAfter-below : (lower previous : List ℕ) (entries : List Entry) → Precedes lower previous → RiseAfter previous (map pair_of entries) → RiseAfter lower (map pair_of entries)
+RiseAfter-below lower previous [] below rise = tt
+RiseAfter-below lower previous (entry ∷ entries) below rise = (
+  record { rises = Precedes-trans lower previous entry.key below rise.0.rises; key = rise.0.key; payload = rise.0.payload },
+  rise.1,
+)
+
+pub RiseAfter-behind : (previous : List ℕ) (front more : List Entry) → RiseAfter previous (map pair_of (front ++ more)) → RiseAfter previous (map pair_of more)
+RiseAfter-behind previous [] more rise = rise
+RiseAfter-behind previous (entry ∷ front) more rise =
+    RiseAfter-behind previous front more (RiseAfter-below previous entry.key (front ++ more) rise.0.rises rise.1)
+
+pub RiseAfter-before : (previous : List ℕ) (front more : List Entry) → RiseAfter previous (map pair_of (front ++ more)) → RiseAfter previous (map pair_of front)
+RiseAfter-before previous [] more rise = tt
+RiseAfter-before previous (entry ∷ front) more rise = (rise.0, RiseAfter-before entry.key front more rise.1)
+
+All-before : {T : Type 0} (P : T → Type 0) (front more : List T) → All P (front ++ more) → All P front
+All-before P [] more all = All-nil P
+All-before P (x ∷ front) more all = All-cons P x front (All-head P x (front ++ more) all) (All-before P front more (All-tail P x (front ++ more) all))
+
+pub All-behind : {T : Type 0} (P : T → Type 0) (front more : List T) → All P (front ++ more) → All P more
+All-behind P [] more all = all
+All-behind P (x ∷ front) more all = All-behind P front more (All-tail P x (front ++ more) all)
+
+-- the entries of each block may be those of a table
+pub block-entries : (blocks : List (List Entry)) (k : ℕ) (d : List Entry) → AreEntries (items_of blocks) → k < length blocks → AreEntries (get_or blocks k d)
+block-entries [] k d are within = absurd (omega arith)
+block-entries (block ∷ blocks) zero d are within = record {
+  rising = RiseAfter-before [] block (items_of blocks) are.rising;
+  each = All-before IsEntry block (items_of blocks) are.each;
+}
+block-entries (block ∷ blocks) (suc k) d are within =
+    block-entries blocks k d
+    (record { rising = RiseAfter-behind [] block (items_of blocks) are.rising; each = All-behind IsEntry block (items_of blocks) are.each })
+    (omega arith)
+
+pub filled-at : {T : Type 0} (block_of : List T → List ℕ) (blocks : List (List T)) (k : ℕ) (d : List T) → AreFilled block_of blocks → k < length blocks → Fits block_of (get_or blocks k d)
+filled-at block_of [] k d filled within = absurd (omega arith)
+filled-at block_of (block ∷ blocks) zero d filled within = filled.0
+filled-at block_of (block ∷ blocks) (suc k) d filled within = filled-at block_of blocks k d filled.2 (omega arith)
+
+-- ---- where blocks stand
+
+block-small : (block : List Entry) → AreEntries block → Fits block_body block → length (block_body block) ≤ 4096
+block-small [] are fits = absurd (fits.some refl)
+block-small (entry ∷ []) are fits = one-fits (pair_of entry) are.rising.0.key (length-payload_of entry)
+block-small (entry ∷ (next ∷ block)) are fits = elim fits.small [
+  | inl small ↦ small
+  | inr one ↦ absurd (omega (arith, one))
+]
+
+total-bound : (blocks : List (List Entry)) → AreEntries (items_of blocks) → AreFilled block_body blocks → total blocks ≤ 4116 * length blocks
+total-bound [] are filled = omega arith
+total-bound (block ∷ blocks) are filled =
+    let here : AreEntries block = block-entries (block ∷ blocks) 0 [] are (omega arith) in
+    let rest : AreEntries (items_of blocks) =
+    record { rising = RiseAfter-behind [] block (items_of blocks) are.rising; each = All-behind IsEntry block (items_of blocks) are.each } in
+    omega (arith, block-small block here filled.0, total-bound blocks rest filled.2)
+
+total-front : (blocks : List (List Entry)) (k : ℕ) → total (take k blocks) ≤ total blocks
+total-front [] zero = omega arith
+total-front [] (suc k) = omega arith
+total-front (block ∷ blocks) zero = omega arith
+total-front (block ∷ blocks) (suc k) = omega (arith, total-front blocks k)
+
+pub length-places_from : (at : ℕ) (blocks : List (List Entry)) → length (places_from at blocks) ≡ length blocks
+length-places_from at [] = refl
+length-places_from at (block ∷ blocks) = ap suc (length-places_from (at + frame_length block) blocks)
+
+pub place-at : (at : ℕ) (blocks : List (List Entry)) (k : ℕ) (p : BlockPlace) (d : List Entry) → k < length blocks
+    → get_or (places_from at blocks) k p ≡ place_behind (at + total (take k blocks)) (get_or blocks k d)
+place-at at [] k p d within = absurd (omega arith)
+place-at at (block ∷ blocks) zero p d within = ap (λ n. place_behind n block) (omega arith)
+place-at at (block ∷ blocks) (suc k) p d within =
+    place-at (at + frame_length block) blocks k p d (omega arith) ∙ ap (λ n. place_behind n (get_or blocks k d)) (omega arith)
+
+-- ---- the frame of a block
+
+parts-at : {T : Type 0} (xs : List T) (k : ℕ) (d : T) → k < length xs → xs ≡ take k xs ++ get_or xs k d ∷ drop (k + 1) xs
+parts-at xs k d within =
+    sym (take-append-drop (k + 1) xs)
+    ∙ ap (λ front. front ++ drop (k + 1) xs) (take_more xs k d within)
+    ∙ append_assoc (take k xs) (get_or xs k d ∷ []) (drop (k + 1) xs)
+
+block-frame : (id : FileId) (blocks : List (List Entry)) (others : List (List ℕ)) (k : ℕ) (d : List Entry) → k < length blocks → length blocks < 2 ^ 23
+    → length (block_body (get_or blocks k d)) ≤ 4096
+    → frame_body id (numbered_frames (map block_body blocks ++ others)) (total (take k blocks)) k ≡ Ok (block_body (get_or blocks k d))
+block-frame id blocks others k d within few small =
+    let before = map block_body (take k blocks) in
+    let body = block_body (get_or blocks k d) in
+    let after = map block_body (drop (k + 1) blocks) ++ others in
+    let bodies : map block_body blocks ++ others ≡ before ++ body ∷ after =
+    ap (λ bs. map block_body bs ++ others) (parts-at blocks k d within)
+    ∙ ap (λ bs. bs ++ others) (map-append block_body (take k blocks) (get_or blocks k d ∷ drop (k + 1) blocks))
+    ∙ append_assoc before (body ∷ map block_body (drop (k + 1) blocks)) others in
+    let count : length before ≡ k = length-map (take k blocks) block_body ∙ length-take-le k blocks (omega arith) in
+    let read : frame_body id (numbered_frames (before ++ body ∷ after)) (length (numbered_frames before)) (length before) ≡ Ok body =
+    written_frame_is_read id before after body (omega arith) (omega arith) in
+    ap (λ bs. frame_body id (numbered_frames bs) (total (take k blocks)) k) bodies
+    ∙ ap (λ n. frame_body id (numbered_frames (before ++ body ∷ after)) n k) (sym (length-frames (take k blocks)))
+    ∙ ap (λ n. frame_body id (numbered_frames (before ++ body ∷ after)) (length (numbered_frames before)) n) (sym count)
+    ∙ read
+
+-- each block of a table is read at its place
+pub block-read : {S : Type 0} (told : S → Option (List ℕ)) (table : Table S) (entries : List Entry) (stands : Stands told table entries) (bytes : List ℕ)
+    → told table.file.file ≡ Some bytes → (place : BlockPlace) (k : ℕ) → k < length table.index → place ≡ get_or table.index k place
+    → (d : List Entry) → block_at table.file.id bytes place k ≡ Ok (block_body (get_or stands.blocks k d))
+unfolding block_at
+block-read {S} told table entries stands bytes tells place k within is d =
+    let blocks = stands.blocks in
+    let parts = stands.parts in
+    let block = get_or blocks k d in
+    let inside : k < length blocks = omega (arith, ap length stands.index, length-places_from 0 blocks) in
+    let are : AreEntries (items_of blocks) = subst AreEntries (sym parts.whole) parts.rising in
+    let small = block-small block (block-entries blocks k d are inside) (filled-at block_body blocks k d parts.filled inside) in
+    let there : place ≡ place_behind (total (take k blocks)) block =
+    is ∙ ap (λ ps. get_or ps k place) stands.index ∙ place-at 0 blocks k place d inside ∙ ap (λ n. place_behind n block) (omega arith) in
+    let near : total (take k blocks) < 2 ^ 62 = omega (arith, total-front blocks k, total-bound blocks are parts.filled, parts.few) in
+    let file = stands.file in
+    let written : bytes ≡ numbered_frames (table_bodies table.foot.lo table.foot.hi blocks table.filter) =
+    subst (λ o. IfSome o (λ bs. bs ≡ numbered_frames (table_bodies table.foot.lo table.foot.hi blocks table.filter))) tells file in
+    let rest = index_bytes (places_from 0 blocks) ∷ table.filter ∷ foot_bytes (foot_of table.foot.lo table.foot.hi blocks table.filter) ∷ [] in
+    let frame : frame_body table.file.id bytes (total (take k blocks)) k ≡ Ok (block_body block) =
+    ap (λ bs. frame_body table.file.id bs (total (take k blocks)) k) written ∙ block-frame table.file.id blocks rest k d inside parts.few small in
+    rw (there, lt-ltb (total (take k blocks)) (2 ^ 62) near, frame, eq-eqb (length (block_body block) + 20) (length (block_body block) + 20) refl) refl
+
+pub told-length : {S : Type 0} (told : S → Option (List ℕ)) (table : Table S) (entries : List Entry) (stands : Stands told table entries) (bytes : List ℕ)
+    → told table.file.file ≡ Some bytes → table.file.len ≡ length bytes
+told-length {S} told table entries stands bytes tells =
+    let written : bytes ≡ numbered_frames (table_bodies table.foot.lo table.foot.hi stands.blocks table.filter) =
+    subst (λ o. IfSome o (λ bs. bs ≡ numbered_frames (table_bodies table.foot.lo table.foot.hi stands.blocks table.filter))) tells stands.file in
+    stands.len ∙ sym (ap length written)
+
+-- each block of a table is the block of entries of it
+pub block-is : {S : Type 0} (told : S → Option (List ℕ)) (table : Table S) (entries : List Entry) (stands : Stands told table entries) (k : ℕ) (d : List Entry)
+    → k < length table.index → AreEntries (get_or stands.blocks k d)
+block-is told table entries stands k d within =
+    block-entries stands.blocks k d (subst AreEntries (sym stands.parts.whole) stands.parts.rising) (omega (arith, ap length stands.index, length-places_from 0 stands.blocks))
+
+-- ---- what was read
+
+pub told-then : (told : Option (List ℕ)) (P Q : List ℕ → Type 0) → ((bytes : List ℕ) → told ≡ Some bytes → P bytes → Q bytes) → IfSome told P → IfSome told Q
+told-then None P Q step known = tt
+told-then (Some bytes) P Q step known = step bytes refl known
+
+pub told-always : (told : Option (List ℕ)) (Q : List ℕ → Type 0) → ((bytes : List ℕ) → told ≡ Some bytes → Q bytes) → IfSome told Q
+told-always None Q always = tt
+told-always (Some bytes) Q always = always bytes refl
+
+refused : {V : Type 0} (value : V) (answer : Result V Fault) (fault : Fault) → answer ≡ Ok value → Answers answer (Err fault) → IsOutside fault
+refused value answer fault is (inl outside) = outside
+refused value answer fault is (inr same) = let e : Ok value ≡ Err fault = sym is ∙ same in absurd cc
+
+-- a block of a table is refused only from outside
+pub block-refused : {S : Type 0} (told : S → Option (List ℕ)) (table : Table S) (entries : List Entry) (stands : Stands told table entries) (bytes : List ℕ)
+    → told table.file.file ≡ Some bytes → (place : BlockPlace) (k : ℕ) → k < length table.index → place ≡ get_or table.index k place → (fault : Fault)
+    → (table.file.len ≡ length bytes → Answers (block_at table.file.id bytes place k) (Err fault)) → IsOutside fault
+block-refused told table entries stands bytes tells place k within is fault known =
+    refused (block_body (get_or stands.blocks k [])) (block_at table.file.id bytes place k) fault (block-read told table entries stands bytes tells place k within is [])
+    (known (told-length told table entries stands bytes tells))
+
+-- what is read of one is the block of its entries
+pub block-answered : {S : Type 0} (told : S → Option (List ℕ)) (table : Table S) (entries : List Entry) (stands : Stands told table entries) (bytes : List ℕ)
+    → told table.file.file ≡ Some bytes → (place : BlockPlace) (k : ℕ) → k < length table.index → place ≡ get_or table.index k place → (frame : List ℕ)
+    → (table.file.len ≡ length bytes → Answers (block_at table.file.id bytes place k) (Ok frame)) → (d : List Entry)
+    → IsBlock frame (map pair_of (get_or stands.blocks k d)) × All IsEntry (get_or stands.blocks k d)
+block-answered told table entries stands bytes tells place k within is frame known d =
+    let read = block-read told table entries stands bytes tells place k within is d in
+    let answer : block_at table.file.id bytes place k ≡ Ok frame = known (told-length told table entries stands bytes tells) in
+    let same : frame ≡ block_body (get_or stands.blocks k d) = cc in
+    let are = block-is told table entries stands k d within in
+    (record { rising = are.rising; spelling = same }, are.each)
+
+-- an answer that only want of memory keeps back
+pub answers-from : {V : Type 0} (value other : V) (result : Result V Fault) → value ≡ other → MatchResult result (λ found. found ≡ other) (λ fault. fault ≡ NoMemory) → Answers (Ok value) result
+answers-from value other (Ok found) same is = let e : value ≡ found = same ∙ sym is in cc
+answers-from value other (Err fault) same is = inl (inl is)
+
+pub outside-answer : {V : Type 0} (answer result : Result V Fault) (fault : Fault) → result ≡ Err fault → IsOutside fault → Answers answer result
+outside-answer {V} answer result fault is outside = subst (λ (r : Result V Fault). Answers answer r) (sym is) (inl outside)
+
+pub told-both : (told : Option (List ℕ)) (P Q : List ℕ → Type 0) → IfSome told P → IfSome told Q → IfSome told (λ bytes. P bytes × Q bytes)
+told-both None P Q one other = tt
+told-both (Some bytes) P Q one other = (one, other)

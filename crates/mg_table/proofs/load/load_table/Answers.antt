@@ -1,0 +1,129 @@
+use Rattle.std.proofs.Common.{◌≡◌, ap, arith, List, ℕ, Result, Ok, Err, inl, inr, IfSome}
+use Rattle.std.proofs.lemmas.Grind.{common_steps}
+use Rattle.mg_model.specs.declared.faults.Fault.{Fault}
+use Rattle.mg_sealed.specs.Answers.{Answers, IsOutside}
+use Rattle.mg_table.specs.Index.{places_from}
+use Rattle.mg_table.specs.Table.{foot_of}
+use Rattle.mg_table.specs.declared.foot.Foot.{Foot}
+use Rattle.mg_table.specs.declared.index.BlockPlace.{BlockPlace}
+use Rattle.mg_table.specs.Loading.{IsFilterRefused, IsIndexRefused, IsRefused}
+use Rattle.mg_table.proofs.KnownLaws.{Of, opened-len, knows_then, knows_both, knows_opened, known_before, outside_err, refused, answered, loads}
+use Rattle.mg_table.proofs.RefusalLaws.{err_is, file_refused, foot_refused, part_refused}
+use Rattle.mg_table.proofs.load.load_table.Goals as goal
+
+pub returns-in_err-file-clause-loaded : goal.returns-in_err-file-clause-loaded
+returns-in_err-file-clause-loaded g c =
+    let told = g.F.Files.told in
+    let arg = c.args.file in
+    let fault = c.in_err-file.field-0.0 in
+    outside_err told (told arg) c.args.len _ fault (grind (arith, common_steps))
+    (knows_then (told arg) c.args.len (λ _ _ _ _. Answers (Ok (record { id = c.args.id; file = arg; len = c.args.len })) (Err fault)) (λ _ _ _ _. IsOutside fault)
+    (λ lo hi entries blocks filter parts h. refused (record { id = c.args.id; file = arg; len = c.args.len }) fault h)
+    (knows_opened (told arg) c.args.id arg c.args.len (Err fault) c.in_err-file.ensures.told))
+
+pub returns-in_err-foot-clause-loaded : goal.returns-in_err-foot-clause-loaded
+returns-in_err-foot-clause-loaded g c =
+    let told = g.F.Files.told in
+    let arg = c.args.file in
+    let fault = c.in_err-foot.field-0.0 in
+    outside_err told (told arg) c.args.len _ fault (grind (arith, common_steps))
+    (knows_then (told arg) c.args.len (λ lo hi blocks filter. Answers (Ok (foot_of lo hi blocks filter)) (Err fault)) (λ _ _ _ _. IsOutside fault)
+    (λ lo hi entries blocks filter parts h. refused (foot_of lo hi blocks filter) fault h)
+    (known_before told c.in_ok-file.file c.args.id arg c.args.len (λ lo hi blocks filter. Answers (Ok (foot_of lo hi blocks filter)) (Err fault)) c.in_ok-file.ensures.same c.in_err-foot.ensures.told))
+
+pub returns-in_err-index-clause-loaded : goal.returns-in_err-index-clause-loaded
+returns-in_err-index-clause-loaded g c =
+    let told = g.F.Files.told in
+    let arg = c.args.file in
+    let foot = c.in_ok-foot.foot in
+    let read : Result Foot Fault = Ok foot in
+    let fault = c.in_err-index.field-0.0 in
+    let Read : Of = λ lo hi blocks filter. Answers (Ok (foot_of lo hi blocks filter)) read in
+    let Refused : Of = λ lo hi blocks filter. foot ≡ foot_of lo hi blocks filter → Answers (Ok (places_from 0 blocks)) (Err fault) in
+    outside_err told (told arg) c.args.len _ fault (grind (arith, common_steps))
+    (knows_then (told arg) c.args.len (λ lo hi blocks filter. Read lo hi blocks filter × Refused lo hi blocks filter) (λ _ _ _ _. IsOutside fault)
+    (λ lo hi entries blocks filter parts h. refused (places_from 0 blocks) fault (h.1 (answered (foot_of lo hi blocks filter) foot h.0)))
+    (knows_both (told arg) c.args.len Read Refused
+    (known_before told c.in_ok-file.file c.args.id arg c.args.len Read c.in_ok-file.ensures.same c.in_ok-foot.ensures.told)
+    (known_before told c.in_ok-file.file c.args.id arg c.args.len Refused c.in_ok-file.ensures.same c.in_err-index.ensures.told)))
+
+pub returns-in_err-filter-clause-loaded : goal.returns-in_err-filter-clause-loaded
+returns-in_err-filter-clause-loaded g c =
+    let told = g.F.Files.told in
+    let arg = c.args.file in
+    let foot = c.in_ok-foot.foot in
+    let read : Result Foot Fault = Ok foot in
+    let fault = c.in_err-filter.field-0.0 in
+    let Read : Of = λ lo hi blocks filter. Answers (Ok (foot_of lo hi blocks filter)) read in
+    let Refused : Of = λ lo hi blocks filter. foot ≡ foot_of lo hi blocks filter → Answers (Ok filter) (Err fault) in
+    outside_err told (told arg) c.args.len _ fault (grind (arith, common_steps))
+    (knows_then (told arg) c.args.len (λ lo hi blocks filter. Read lo hi blocks filter × Refused lo hi blocks filter) (λ _ _ _ _. IsOutside fault)
+    (λ lo hi entries blocks filter parts h. refused filter fault (h.1 (answered (foot_of lo hi blocks filter) foot h.0)))
+    (knows_both (told arg) c.args.len Read Refused
+    (known_before told c.in_ok-file.file c.args.id arg c.args.len Read c.in_ok-file.ensures.same c.in_ok-foot.ensures.told)
+    (known_before told c.in_ok-file.file c.args.id arg c.args.len Refused c.in_ok-file.ensures.same c.in_err-filter.ensures.told)))
+
+pub returns-clause-loaded : goal.returns-clause-loaded
+returns-clause-loaded g c =
+    let told = g.F.Files.told in
+    let arg = c.args.file in
+    let len = c.args.len in
+    let foot = c.in_ok-foot.foot in
+    let index : Result (List BlockPlace) Fault = Ok c.in_ok-index.index in
+    let filter : Result (List ℕ) Fault = Ok c.in_ok-filter.filter in
+    let read : Result Foot Fault = Ok foot in
+    let Read : Of = λ lo hi blocks kept. Answers (Ok (foot_of lo hi blocks kept)) read in
+    let Indexed : Of = λ lo hi blocks kept. foot ≡ foot_of lo hi blocks kept → Answers (Ok (places_from 0 blocks)) index in
+    let Filtered : Of = λ lo hi blocks kept. foot ≡ foot_of lo hi blocks kept → Answers (Ok kept) filter in
+    loads told arg _ len (ap (λ f. f.file) c.in_ok-file.ensures.same) (ap (λ f. f.len) c.in_ok-file.ensures.same)
+    (knows_then (told arg) len (λ lo hi blocks kept. (Read lo hi blocks kept × Indexed lo hi blocks kept) × Filtered lo hi blocks kept) _
+    (λ lo hi entries blocks kept parts h.
+    let there = answered (foot_of lo hi blocks kept) foot h.0.0 in
+    (there, (answered (places_from 0 blocks) c.in_ok-index.index (h.0.1 there), answered kept c.in_ok-filter.filter (h.1 there))))
+    (knows_both (told arg) len (λ lo hi blocks kept. Read lo hi blocks kept × Indexed lo hi blocks kept) Filtered
+    (knows_both (told arg) len Read Indexed
+    (known_before told c.in_ok-file.file c.args.id arg len Read c.in_ok-file.ensures.same c.in_ok-foot.ensures.told)
+    (known_before told c.in_ok-file.file c.args.id arg len Indexed c.in_ok-file.ensures.same c.in_ok-index.ensures.told))
+    (known_before told c.in_ok-file.file c.args.id arg len Filtered c.in_ok-file.ensures.same c.in_ok-filter.ensures.told)))
+
+pub returns-clause-len : goal.returns-clause-len
+returns-clause-len g c = opened-len (g.F.Files.told c.args.file) c.args.id c.args.file c.args.len 73 c.in_ok-file.file c.in_ok-file.ensures.told
+
+pub returns-in_err-file-clause-refusals : goal.returns-in_err-file-clause-refusals
+returns-in_err-file-clause-refusals g c =
+    let told = g.F.Files.told in
+    let arg = c.args.file in
+    let fault = c.in_err-file.field-0.0 in
+    err_is _ fault (λ fault. IfSome (told arg) (λ bytes. IsRefused c.args.id arg c.args.len bytes fault)) (grind (arith, common_steps))
+    (file_refused (told arg) c.args.id arg c.args.len fault c.in_err-file.ensures.told)
+
+pub returns-in_err-foot-clause-refusals : goal.returns-in_err-foot-clause-refusals
+returns-in_err-foot-clause-refusals g c =
+    let told = g.F.Files.told in
+    let arg = c.args.file in
+    let fault = c.in_err-foot.field-0.0 in
+    let long = opened-len (told arg) c.args.id arg c.args.len 73 c.in_ok-file.file c.in_ok-file.ensures.told in
+    err_is _ fault (λ fault. IfSome (told arg) (λ bytes. IsRefused c.args.id arg c.args.len bytes fault)) (grind (arith, common_steps))
+    (foot_refused told c.in_ok-file.file c.args.id arg c.args.len fault c.in_ok-file.ensures.same long c.in_err-foot.ensures.refusals)
+
+pub returns-in_err-index-clause-refusals : goal.returns-in_err-index-clause-refusals
+returns-in_err-index-clause-refusals g c =
+    let told = g.F.Files.told in
+    let arg = c.args.file in
+    let foot = c.in_ok-foot.foot in
+    let fault = c.in_err-index.field-0.0 in
+    let long = opened-len (told arg) c.args.id arg c.args.len 73 c.in_ok-file.file c.in_ok-file.ensures.told in
+    err_is _ fault (λ fault. IfSome (told arg) (λ bytes. IsRefused c.args.id arg c.args.len bytes fault)) (grind (arith, common_steps))
+    (part_refused told c.in_ok-file.file c.args.id arg c.args.len foot fault (λ id bytes. IsIndexRefused id bytes foot fault) c.in_ok-file.ensures.same long c.in_ok-foot.ensures.is_foot
+    (λ bytes part. inl part) c.in_ok-foot.ensures.found c.in_err-index.ensures.refusals)
+
+pub returns-in_err-filter-clause-refusals : goal.returns-in_err-filter-clause-refusals
+returns-in_err-filter-clause-refusals g c =
+    let told = g.F.Files.told in
+    let arg = c.args.file in
+    let foot = c.in_ok-foot.foot in
+    let fault = c.in_err-filter.field-0.0 in
+    let long = opened-len (told arg) c.args.id arg c.args.len 73 c.in_ok-file.file c.in_ok-file.ensures.told in
+    err_is _ fault (λ fault. IfSome (told arg) (λ bytes. IsRefused c.args.id arg c.args.len bytes fault)) (grind (arith, common_steps))
+    (part_refused told c.in_ok-file.file c.args.id arg c.args.len foot fault (λ id bytes. IsFilterRefused id bytes foot fault) c.in_ok-file.ensures.same long c.in_ok-foot.ensures.is_foot
+    (λ bytes part. inr part) c.in_ok-foot.ensures.found c.in_err-filter.ensures.refusals)

@@ -1,0 +1,134 @@
+use Rattle.std.proofs.Common.{◌≡◌, ◌+◌, ◌∙◌, ap, sym, subst, inl, arith, length, List, [], ℕ, Result, Ok, Err, ◌≢◌, ◌⊎◌, IfSome, inr, refl}
+use Rattle.std.proofs.lemmas.Grind.{common_steps}
+use Rattle.mg_model.specs.declared.faults.Fault.{Fault}
+use Rattle.mg_model.specs.declared.faults.Fault.TheVariants.{Malformed}
+use Rattle.mg_sealed.specs.Answers.{Answers, IsOutside}
+use Rattle.mg_table.specs.Index.{index_bytes, places_from, IsIndexFrom}
+use Rattle.mg_table.specs.Table.{foot_of}
+use Rattle.mg_table.specs.declared.foot.Foot.{Foot}
+use Rattle.mg_table.specs.declared.index.BlockPlace.{BlockPlace}
+use Rattle.mg_table.specs.Loading.{IsIndexRefused, IsNoIndex}
+use Rattle.mg_table.proofs.KnownLaws.{knows_then, knows_index, refused, answered, outside, answers}
+use Rattle.mg_table.proofs.LoadingLaws.{index_of_table, length-places_from}
+use Rattle.mg_table.proofs.RefusalLaws.{err_is, unfit_not_memory, index_frame_refused, index_unfit, index_apart, memory_refused}
+use Rattle.mg_table.proofs.load.read_index.Goals as goal
+
+pub returns-in_err-frame-clause-told : goal.returns-in_err-frame-clause-told
+returns-in_err-frame-clause-told g c =
+    let file = c.args.file.now in
+    let foot = c.args.foot.now in
+    let told = g.F.Files.told file.file in
+    let fault = c.in_err-frame.field-0.0 in
+    knows_then told file.len (λ lo hi blocks filter. foot ≡ foot_of lo hi blocks filter → Answers (Ok (index_bytes (places_from 0 blocks))) (Err fault)) _
+    (λ lo hi entries blocks filter parts h there. outside (places_from 0 blocks) _ fault (grind (arith, common_steps)) (refused (index_bytes (places_from 0 blocks)) fault (h there)))
+    (knows_index told file.id file.len foot c.from-number.result (Err fault) c.from-number.ensures c.in_err-frame.ensures.told)
+
+pub returns-in_err-index-clause-told : goal.returns-in_err-index-clause-told
+returns-in_err-index-clause-told g c =
+    let file = c.args.file.now in
+    let foot = c.args.foot.now in
+    let told = g.F.Files.told file.file in
+    let frame = c.in_ok-frame.frame in
+    let read : Result (List ℕ) Fault = Ok frame in
+    let fault = c.in_err-index.field-0.0 in
+    knows_then told file.len (λ lo hi blocks filter. foot ≡ foot_of lo hi blocks filter → Answers (Ok (index_bytes (places_from 0 blocks))) read) _
+    (λ lo hi entries blocks filter parts h there.
+    let is = subst (λ at. IsIndexFrom [] 0 (places_from 0 blocks) at) (sym (ap (λ (f : Foot). f.index_at) there)) (index_of_table lo hi entries blocks filter parts) in
+    outside (places_from 0 blocks) _ fault (grind (arith, common_steps))
+    (inl (c.in_err-index.ensures.written (places_from 0 blocks) is (c.body.ensures ∙ answered (index_bytes (places_from 0 blocks)) frame (h there)))))
+    (knows_index told file.id file.len foot c.from-number.result read c.from-number.ensures c.in_ok-frame.ensures.told)
+
+pub returns-then-len-number-clause-told : goal.returns-then-len-number-clause-told
+returns-then-len-number-clause-told g c =
+    let file = c.args.file.now in
+    let foot = c.args.foot.now in
+    let told = g.F.Files.told file.file in
+    let frame = c.in_ok-frame.frame in
+    let read : Result (List ℕ) Fault = Ok frame in
+    knows_then told file.len (λ lo hi blocks filter. foot ≡ foot_of lo hi blocks filter → Answers (Ok (index_bytes (places_from 0 blocks))) read) _
+    (λ lo hi entries blocks filter parts h there.
+    let is = subst (λ at. IsIndexFrom [] 0 (places_from 0 blocks) at) (sym (ap (λ (f : Foot). f.index_at) there)) (index_of_table lo hi entries blocks filter parts) in
+    let index : c.in_ok-index.index ≡ places_from 0 blocks =
+    c.in_ok-index.ensures.written (places_from 0 blocks) is (c.body.ensures ∙ answered (index_bytes (places_from 0 blocks)) frame (h there)) in
+    let same : length c.in_ok-index.index ≡ c.from-number.result =
+    ap length index ∙ length-places_from 0 blocks ∙ sym (c.from-number.ensures ∙ ap (λ (f : Foot). f.blocks) there) in
+    absurd (grind (arith, common_steps, same)))
+    (knows_index told file.id file.len foot c.from-number.result read c.from-number.ensures c.in_ok-frame.ensures.told)
+
+pub returns-then-foot-body-clause-told : goal.returns-then-foot-body-clause-told
+returns-then-foot-body-clause-told g c =
+    let file = c.args.file.now in
+    let foot = c.args.foot.now in
+    let told = g.F.Files.told file.file in
+    let frame = c.in_ok-frame.frame in
+    let read : Result (List ℕ) Fault = Ok frame in
+    knows_then told file.len (λ lo hi blocks filter. foot ≡ foot_of lo hi blocks filter → Answers (Ok (index_bytes (places_from 0 blocks))) read) _
+    (λ lo hi entries blocks filter parts h there.
+    let body : c.body-2.result.now ≡ index_bytes (places_from 0 blocks) = c.body-2.ensures ∙ answered (index_bytes (places_from 0 blocks)) frame (h there) in
+    let ends : foot.filter_at ≡ foot.index_at + length (index_bytes (places_from 0 blocks)) + 20 =
+    ap (λ (f : Foot). f.filter_at) there ∙ ap (λ n. n + length (index_bytes (places_from 0 blocks)) + 20) (sym (ap (λ (f : Foot). f.index_at) there)) in
+    let long : length c.body-2.result.now ≡ length (index_bytes (places_from 0 blocks)) = ap length body in
+    absurd (grind (arith, common_steps, ends, long)))
+    (knows_index told file.id file.len foot c.from-number.result read c.from-number.ensures c.in_ok-frame.ensures.told)
+
+pub returns-clause-told : goal.returns-clause-told
+returns-clause-told g c =
+    let file = c.args.file.now in
+    let foot = c.args.foot.now in
+    let told = g.F.Files.told file.file in
+    let frame = c.in_ok-frame.frame in
+    let read : Result (List ℕ) Fault = Ok frame in
+    knows_then told file.len (λ lo hi blocks filter. foot ≡ foot_of lo hi blocks filter → Answers (Ok (index_bytes (places_from 0 blocks))) read) _
+    (λ lo hi entries blocks filter parts h there.
+    let is = subst (λ at. IsIndexFrom [] 0 (places_from 0 blocks) at) (sym (ap (λ (f : Foot). f.index_at) there)) (index_of_table lo hi entries blocks filter parts) in
+    let index : c.in_ok-index.index ≡ places_from 0 blocks =
+    c.in_ok-index.ensures.written (places_from 0 blocks) is (c.body.ensures ∙ answered (index_bytes (places_from 0 blocks)) frame (h there)) in
+    answers (places_from 0 blocks) _ (ap (λ (ps : List BlockPlace). let r : Result (List BlockPlace) Fault = Ok ps in r) index))
+    (knows_index told file.id file.len foot c.from-number.result read c.from-number.ensures c.in_ok-frame.ensures.told)
+
+pub returns-in_err-frame-clause-refusals : goal.returns-in_err-frame-clause-refusals
+returns-in_err-frame-clause-refusals g c =
+    let file = c.args.file.now in
+    let foot = c.args.foot.now in
+    let told = g.F.Files.told file.file in
+    let fault = c.in_err-frame.field-0.0 in
+    err_is _ fault (λ fault. IfSome told (λ bytes. file.len ≡ length bytes → IsOutside fault ⊎ IsIndexRefused file.id bytes foot fault)) (grind (arith, common_steps))
+    (index_frame_refused told file.id file.len foot c.from-number.result fault c.from-number.ensures c.in_err-frame.ensures.told)
+
+pub returns-in_err-index-clause-refusals : goal.returns-in_err-index-clause-refusals
+returns-in_err-index-clause-refusals g c =
+    let file = c.args.file.now in
+    let foot = c.args.foot.now in
+    let told = g.F.Files.told file.file in
+    let frame = c.in_ok-frame.frame in
+    let fault = c.in_err-index.field-0.0 in
+    err_is _ fault (λ fault. IfSome told (λ bytes. file.len ≡ length bytes → IsOutside fault ⊎ IsIndexRefused file.id bytes foot fault)) (grind (arith, common_steps))
+    (elim c.in_err-index.ensures.refusals [
+      | inr memory ↦ memory_refused told file.len (λ bytes. IsIndexRefused file.id bytes foot fault) fault memory
+      | inl unfit ↦
+          index_unfit told file.id file.len foot c.from-number.result frame fault c.from-number.ensures
+          (λ places is many spelled. unfit_not_memory file.id foot.index_at fault unfit (c.in_err-index.ensures.written places is (c.body.ensures ∙ spelled))) unfit
+          c.in_ok-frame.ensures.told
+    ])
+
+pub returns-then-len-number-clause-refusals : goal.returns-then-len-number-clause-refusals
+returns-then-len-number-clause-refusals g c =
+    let file = c.args.file.now in
+    let foot = c.args.foot.now in
+    let told = g.F.Files.told file.file in
+    let frame = c.in_ok-frame.frame in
+    let none : IsNoIndex foot frame = λ places is many spelled.
+    let index : c.in_ok-index.index ≡ places = c.in_ok-index.ensures.written places is (c.body.ensures ∙ spelled) in
+    let same : length c.in_ok-index.index ≡ c.from-number.result = ap length index ∙ many ∙ sym c.from-number.ensures in
+    absurd (grind (arith, common_steps, same)) in
+    index_unfit told file.id file.len foot c.from-number.result frame (Malformed file.id foot.index_at) c.from-number.ensures none (inl refl) c.in_ok-frame.ensures.told
+
+pub returns-then-foot-body-clause-refusals : goal.returns-then-foot-body-clause-refusals
+returns-then-foot-body-clause-refusals g c =
+    let file = c.args.file.now in
+    let foot = c.args.foot.now in
+    let told = g.F.Files.told file.file in
+    let frame = c.in_ok-frame.frame in
+    let long : length c.body-2.result.now ≡ length frame = ap length c.body-2.ensures in
+    let apart : foot.index_at + length frame + 20 ≢ foot.filter_at = λ ends. absurd (grind (arith, common_steps, ends, long)) in
+    index_apart told file.id file.len foot c.from-number.result frame c.from-number.ensures apart c.in_ok-frame.ensures.told

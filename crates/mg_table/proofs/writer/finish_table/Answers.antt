@@ -1,0 +1,89 @@
+use Rattle.std.proofs.Common.{◌≡◌, ◌≢◌, ◌+◌, ◌∙◌, List, [], ◌∷◌, ◌++◌, ℕ, map, sym, refl, ap, subst, length, arith}
+use Rattle.mg_block.specs.Block.{block_of}
+use Rattle.mg_sealed.specs.Writing.{HasFrames}
+use Rattle.mg_table.specs.Entries.{pair_of}
+use Rattle.mg_table.specs.Filters.{IsFilterOf}
+use Rattle.mg_table.specs.Foot.{foot_bytes}
+use Rattle.mg_table.specs.Index.{index_bytes}
+use Rattle.mg_table.specs.Writing.{HasBlocks, IsWriting}
+use Rattle.mg_table.proofs.FinishLaws.{finished, length-foot_bytes}
+use Rattle.mg_table.proofs.IndexLaws.{length-index_bytes}
+use Rattle.mg_table.proofs.writer.finish_table.Goals as goal
+
+pub append_frame-requires-clause-body : goal.append_frame-requires-clause-body
+append_frame-requires-clause-body g c = λ κs live.
+    let bytes : c.deref-2.result.now ≡ index_bytes c.closed-2.inside.index = c.deref-2.ensures.value ∙ c.in_ok-index_bytes.ensures ∙ ap index_bytes c.as_slice-2.ensures in
+    let few = length-index_bytes c.closed-2.inside.index c.closed-2.invariant.places in
+    let count : c.closed-2.inside.frames.count ≡ c.writer.inside.closed.frames.count + 1 = ap (λ w. w.frames.count) c.closed-2.view_is ∙ c.in_ok-close_block.ensures.count in
+    omega (arith, ap length bytes, few, count, c.closed-2.invariant.index, c.closed-2.invariant.len, c.writer.invariant.blocks)
+
+pub append_frame-requires-clause-room : goal.append_frame-requires-clause-room
+append_frame-requires-clause-room g c = λ κs live.
+    let bytes : c.deref-2.result.now ≡ index_bytes c.closed-2.inside.index = c.deref-2.ensures.value ∙ c.in_ok-index_bytes.ensures ∙ ap index_bytes c.as_slice-2.ensures in
+    let few = length-index_bytes c.closed-2.inside.index c.closed-2.invariant.places in
+    let count : c.closed-2.inside.frames.count ≡ c.writer.inside.closed.frames.count + 1 = ap (λ w. w.frames.count) c.closed-2.view_is ∙ c.in_ok-close_block.ensures.count in
+    omega (arith, ap length bytes, few, count, c.closed-2.invariant.index, c.closed-2.invariant.len, c.writer.invariant.blocks)
+
+pub append_frame-requires-2-clause-room : goal.append_frame-requires-2-clause-room
+append_frame-requires-2-clause-room g c = λ κs live.
+    let bytes : c.deref-2.result.now ≡ index_bytes c.closed-2.inside.index = c.deref-2.ensures.value ∙ c.in_ok-index_bytes.ensures ∙ ap index_bytes c.as_slice-2.ensures in
+    let few = length-index_bytes c.closed-2.inside.index c.closed-2.invariant.places in
+    let count : c.closed-2.inside.frames.count ≡ c.writer.inside.closed.frames.count + 1 = ap (λ w. w.frames.count) c.closed-2.view_is ∙ c.in_ok-close_block.ensures.count in
+    omega (arith, ap length bytes, few, count, c.closed-2.invariant.index, c.closed-2.invariant.len, c.writer.invariant.blocks, c.in_ok-index_at.ensures.len, c.bytes-2.ensures.size.at_most, ap length c.bytes-2.ensures.body)
+
+pub append_frame-requires-3-clause-body : goal.append_frame-requires-3-clause-body
+append_frame-requires-3-clause-body g c = λ κs live.
+    let foot = c.deref-3.ensures.value ∙ c.in_ok-foot_body.ensures in
+    omega (arith, ap length foot ∙ length-foot_bytes _)
+
+pub append_frame-requires-3-clause-room : goal.append_frame-requires-3-clause-room
+append_frame-requires-3-clause-room g c = λ κs live.
+    let bytes : c.deref-2.result.now ≡ index_bytes c.closed-2.inside.index = c.deref-2.ensures.value ∙ c.in_ok-index_bytes.ensures ∙ ap index_bytes c.as_slice-2.ensures in
+    let few = length-index_bytes c.closed-2.inside.index c.closed-2.invariant.places in
+    let count : c.closed-2.inside.frames.count ≡ c.writer.inside.closed.frames.count + 1 = ap (λ w. w.frames.count) c.closed-2.view_is ∙ c.in_ok-close_block.ensures.count in
+    let foot = c.deref-3.ensures.value ∙ c.in_ok-foot_body.ensures in
+    omega (arith, ap length bytes, few, count, c.closed-2.invariant.index, c.closed-2.invariant.len, c.writer.invariant.blocks, c.in_ok-index_at.ensures.len, c.bytes-2.ensures.size.at_most, ap length c.bytes-2.ensures.body, c.in_ok-filter_at.ensures.len, ap length foot ∙ length-foot_bytes _)
+
+pub returns-clause-table : goal.returns-clause-table
+returns-clause-table g c = λ entries stands.
+    let bytes : c.deref-2.result.now ≡ index_bytes c.closed-2.inside.index = c.deref-2.ensures.value ∙ c.in_ok-index_bytes.ensures ∙ ap index_bytes c.as_slice-2.ensures in
+    let few = length-index_bytes c.closed-2.inside.index c.closed-2.invariant.places in
+    let count : c.closed-2.inside.frames.count ≡ c.writer.inside.closed.frames.count + 1 = ap (λ w. w.frames.count) c.closed-2.view_is ∙ c.in_ok-close_block.ensures.count in
+    let foot = c.deref-3.ensures.value ∙ c.in_ok-foot_body.ensures in
+    let drafted = g.F.Files.drafted in
+    let told = g.F.Files.told in
+    let inside = c.writer.inside in
+    let blocks = stands.0 in
+    let last = stands.1 in
+    let is = subst (λ w. IsWriting drafted w entries blocks last) (sym c.writer.view_is) stands.2 in
+    let begun : inside.block ≢ [] = λ none. c.requires.some (sym (ap (λ w. w.block) c.writer.view_is) ∙ none) in
+    let some : last ≢ [] = λ none. begun (is.block ∙ ap (map pair_of) none) in
+    let closed = c.in_ok-close_block.ensures.blocks blocks last is.closed (c.bytes.ensures.block ∙ ap block_of is.block) (c.deref.ensures.value ∙ is.first some) in
+    let closed' = subst (λ w. HasBlocks drafted w (blocks ++ last ∷ [])) (sym c.closed-2.view_is) closed in
+    let filter = c.in_ok-filter.filter in
+    let frames = c.closed-2.inside.frames in
+    finished drafted told
+    (record { id = inside.id; lo = inside.lo; hi = inside.hi; closed = inside.closed; block = inside.block; first = inside.first_key.items; hashed = inside.hashed; sizes = inside.sizes })
+    (record { frames = frames; index = c.closed-2.inside.index }) _ entries blocks last is closed'
+    (record {
+      some = begun;
+      count = omega (arith, count, c.writer.invariant.blocks);
+      lo = c.writer.invariant.lo;
+      hi = c.writer.invariant.hi;
+      filtered = subst (λ (ws : List (List ℕ)). IsFilterOf ws filter) c.as_slice.ensures c.in_ok-filter.ensures;
+      index = refl;
+      entries = c.len.ensures;
+      sizes = refl;
+      from = refl;
+      to = refl;
+      index_at = ap (λ p. p.at) c.in_ok-index_at.ensures.placed;
+      filter_at = ap (λ p. p.at) c.in_ok-filter_at.ensures.placed ∙ c.in_ok-index_at.ensures.len ∙ ap (λ (bs : List ℕ). frames.len + length bs + 20) bytes;
+      blocks = c.count-blocks.ensures;
+      sealed = λ bodies has.
+          let one = subst (λ (bs : List ℕ). HasFrames drafted c.append_frame.new.writer (bodies ++ bs ∷ [])) bytes (c.in_ok-index_at.ensures.frames bodies has) in
+          let two = subst (λ (bs : List ℕ). HasFrames drafted c.append_frame-2.new.writer ((bodies ++ index_bytes c.closed-2.inside.index ∷ []) ++ bs ∷ []))
+          c.bytes-2.ensures.body (c.in_ok-filter_at.ensures.frames (bodies ++ index_bytes c.closed-2.inside.index ∷ []) one) in
+          let three = subst (λ (bs : List ℕ). HasFrames drafted c.append_frame-3.new.writer (((bodies ++ index_bytes c.closed-2.inside.index ∷ []) ++ filter ∷ []) ++ bs ∷ []))
+          foot (c.in_ok-append_frame.ensures.frames ((bodies ++ index_bytes c.closed-2.inside.index ∷ []) ++ filter ∷ []) two) in
+          (c.in_ok-file.ensures.len ∙ three.len, c.in_ok-file.ensures.frames (((bodies ++ index_bytes c.closed-2.inside.index ∷ []) ++ filter ∷ []) ++ foot_bytes _ ∷ []) three);
+    })

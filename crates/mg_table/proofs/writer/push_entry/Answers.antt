@@ -1,0 +1,55 @@
+use Rattle.std.proofs.Common.{◌≡◌, ◌+◌, ◌∙◌, List, [], ◌∷◌, ◌++◌, ℕ, sym, ap, subst, length, arith}
+use Rattle.mg_block.specs.Block.{Precedes}
+use Rattle.mg_block.specs.View.{last_pair}
+use Rattle.mg_block.specs.declared.pair.Pair.{Pair}
+use Rattle.mg_bloom.specs.Bloom.{key_words}
+use Rattle.mg_table.specs.Entries.{pair_of, payload_of}
+use Rattle.mg_table.specs.Writing.{IsWriting}
+use Rattle.mg_table.proofs.EntryLaws.{length-payload_of}
+use Rattle.mg_table.proofs.WriterLaws.{pushed}
+use Rattle.mg_table.proofs.writer.push_entry.Goals as goal
+
+pub make_room-requires-clause-follows : goal.make_room-requires-clause-follows
+make_room-requires-clause-follows g c = λ κs live.
+    let entry = c.args.entry.now in
+    let payload : c.deref-2.result.now ≡ payload_of entry = c.deref-2.ensures.value ∙ c.in_ok-put_payload.ensures ∙ ap (λ (xs : List ℕ). xs ++ payload_of entry) c.clear.ensures.items in
+    let block : c.args.writer.now.block ≡ c.writer.inside.block = sym (ap (λ w. w.block) c.writer.view_is) in
+    let rises : Precedes (last_pair c.writer.inside.block).key entry.key = subst (λ (ps : List Pair). Precedes (last_pair ps).key entry.key) block c.requires.rises in
+    record {
+      rises = subst (λ (k : List ℕ). Precedes (last_pair c.writer.inside.block).key k) (sym c.bytes-key.ensures.bytes) rises;
+      key = omega (arith, c.bytes-key.ensures.form.1, ap length c.bytes-key.ensures.bytes);
+      payload = omega (arith, ap length payload, length-payload_of entry);
+    }
+
+pub make_room-requires-clause-payload : goal.make_room-requires-clause-payload
+make_room-requires-clause-payload g c = λ κs live.
+    let entry = c.args.entry.now in
+    let payload : c.deref-2.result.now ≡ payload_of entry = c.deref-2.ensures.value ∙ c.in_ok-put_payload.ensures ∙ ap (λ (xs : List ℕ). xs ++ payload_of entry) c.clear.ensures.items in
+    ap length payload ∙ length-payload_of entry
+
+pub returns-clause-entries : goal.returns-clause-entries
+returns-clause-entries g c = λ entries stands.
+    let drafted = g.F.Files.drafted in
+    let entry = c.args.entry.now in
+    let inside = c.writer.inside in
+    let blocks = stands.0 in
+    let last = stands.1 in
+    let is = subst (λ w. IsWriting drafted w entries blocks last) (sym c.writer.view_is) stands.2 in
+    let payload : c.deref-2.result.now ≡ payload_of entry = c.deref-2.ensures.value ∙ c.in_ok-put_payload.ensures ∙ ap (λ (xs : List ℕ). xs ++ payload_of entry) c.clear.ensures.items in
+    let key : c.bytes-key.result.now ≡ entry.key = c.bytes-key.ensures.bytes in
+    let ready = c.in_ok-make_room.ensures.ready blocks last entry is.closed is.block (λ some. c.deref.ensures.value ∙ is.first some) is.filled key payload in
+    let rises : Precedes (last_pair inside.block).key entry.key = subst (λ (ps : List Pair). Precedes (last_pair ps).key entry.key) (sym (ap (λ w. w.block) c.writer.view_is)) c.requires.rises in
+    let given : Pair = record { key = c.bytes-key.result.now; payload = c.deref-3.result.now } in
+    let same : given ≡ pair_of entry = cc (key, payload, c.deref-3.ensures.value, c.deref-2.ensures.value) in
+    pushed drafted
+    (record { id = inside.id; lo = inside.lo; hi = inside.hi; closed = inside.closed; block = inside.block; first = inside.first_key.items; hashed = inside.hashed; sizes = inside.sizes })
+    (record { id = inside.id; lo = inside.lo; hi = inside.hi; closed = c.make_room.new.closed; block = c.push_pair.new.block; first = c.keep_first.new.first.items; hashed = c.push.new.self; sizes = inside.sizes + c.from.result })
+    c.make_room.new.block entry entries blocks last is ready
+    (record {
+      block_is = c.in_ok-push_pair.ensures.ok ∙ ap (λ (p : Pair). c.make_room.new.block ++ p ∷ []) same;
+      begun = λ none. c.in_ok-keep_first.ensures.begun none ∙ key;
+      kept = λ some. c.in_ok-keep_first.ensures.kept some;
+      hashed = c.in_ok-push.ensures.ok ∙ ap (λ (ws : List ℕ). inside.hashed ++ ws ∷ []) (c.new.ensures ∙ ap key_words key);
+      sizes = ap (λ n. inside.sizes + n) c.from.ensures;
+    })
+    c.requires.entry (omega (arith, c.bytes-key.ensures.form.1)) (omega (arith, length-payload_of entry)) rises

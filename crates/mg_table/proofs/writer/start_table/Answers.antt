@@ -1,0 +1,21 @@
+use Rattle.std.proofs.Common.{[], inl, refl, sym}
+use Rattle.std.proofs.lemmas.List.Elements.{All-nil}
+use Rattle.mg_table.specs.Entries.{IsEntry}
+use Rattle.mg_table.proofs.EntryLaws.{sizes_of-none}
+use Rattle.mg_table.proofs.writer.start_table.Goals as goal
+
+pub returns-clause-empty : goal.returns-clause-empty
+returns-clause-empty g c = (
+  [],
+  [],
+  record {
+    closed = record { frames = c.in_ok-frames.ensures.empty; index = cc };
+    block = cc;
+    first = λ some. absurd (some refl);
+    hashed = cc;
+    sizes = sym sizes_of-none;
+    rising = record { rising = tt; each = All-nil IsEntry };
+    parts = refl;
+    filled = inl (refl, refl);
+  },
+)

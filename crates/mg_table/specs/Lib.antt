@@ -1,0 +1,9 @@
+pub mod Entries
+pub mod Filters
+pub mod Foot
+pub mod Index
+pub mod Loading
+pub mod Payload
+pub mod Reading
+pub mod Table
+pub mod Writing

@@ -1,0 +1,69 @@
+-- A table: the bytes of its list of entries.
+use Rattle.std.specs.Prelude.{◌≡◌, ◌≢◌, ℕ, ◌+◌, ◌<◌, ◌^◌, List, [], ◌∷◌, ◌++◌, length, map, Option, IfSome}
+use Rattle.std.specs.List.{sum_by}
+use Rattle.mg_bloom.specs.Bloom.{key_words}
+use Rattle.mg_frame.specs.Frames.{numbered_frames}
+use Rattle.mg_sealed.specs.Filling.{AreFilled, items_of}
+use Rattle.mg_table.specs.Entries.{block_body, AreEntries}
+use Rattle.mg_table.specs.Filters.{IsFilterOf}
+use Rattle.mg_table.specs.Foot.{foot_bytes}
+use Rattle.mg_table.specs.Index.{index_bytes, places_from}
+use Rattle.mg_table.specs.declared.entry.Entry.{Entry}
+use Rattle.mg_table.specs.declared.foot.Foot.{Foot}
+use Rattle.mg_table.specs.declared.table.Table.{Table}
+
+-- what the keys of entries are hashed to
+abbrev pub hashed_keys : List Entry → List (List ℕ)
+hashed_keys entries = map (λ entry. key_words entry.key) entries
+
+-- the sum of the entries' sizes
+abbrev pub sizes_of : List Entry → ℕ
+sizes_of entries = sum_by (λ entry. entry.size) entries
+
+-- the foot of a table over an interval with these blocks and this filter
+abbrev pub foot_of : ℕ → ℕ → List (List Entry) → List ℕ → Foot
+foot_of lo hi blocks filter =
+    let index_at = length (numbered_frames (map block_body blocks)) in
+    record {
+      entries = length (items_of blocks);
+      sizes = sizes_of (items_of blocks);
+      lo = lo;
+      hi = hi;
+      index_at = index_at;
+      filter_at = index_at + length (index_bytes (places_from 0 blocks)) + 20;
+      blocks = length blocks;
+    }
+
+-- the bodies of a table's frames: the blocks, the index, the filter and the foot
+abbrev pub table_bodies : ℕ → ℕ → List (List Entry) → List ℕ → List (List ℕ)
+table_bodies lo hi blocks filter =
+    map block_body blocks ++ index_bytes (places_from 0 blocks) ∷ filter ∷ foot_bytes (foot_of lo hi blocks filter) ∷ []
+
+-- These entries in these blocks are those of a table, with this filter: at least one entry, keys that strictly rise, blocks
+-- that are filled in order, and a filter of exactly these keys. Both numbers of the interval are in range.
+pub record IsTableOf (lo hi : ℕ) (entries : List Entry) (blocks : List (List Entry)) (filter : List ℕ) : Type 0 where
+  pub some : entries ≢ []
+  pub rising : AreEntries entries
+  pub whole : items_of blocks ≡ entries
+  pub filled : AreFilled block_body blocks
+  pub few : length blocks < 2 ^ 23
+  pub filtered : IsFilterOf (hashed_keys entries) filter
+  pub from : lo < 2 ^ 62
+  pub to : hi < 2 ^ 62
+
+-- the bytes are the table of these entries over this interval
+pub record IsTable (bytes : List ℕ) (lo hi : ℕ) (entries : List Entry) : Type 0 where
+  pub blocks : List (List Entry)
+  pub filter : List ℕ
+  pub parts : IsTableOf lo hi entries blocks filter
+  pub bytes_are : bytes ≡ numbered_frames (table_bodies lo hi blocks filter)
+
+-- A table as it is kept stands for these entries: its foot, index and filter are theirs, and where the port tells the file's
+-- bytes, these are their table.
+pub record Stands {S : Type 0} (told : S → Option (List ℕ)) (table : Table S) (entries : List Entry) : Type 0 where
+  pub blocks : List (List Entry)
+  pub parts : IsTableOf table.foot.lo table.foot.hi entries blocks table.filter
+  pub foot : table.foot ≡ foot_of table.foot.lo table.foot.hi blocks table.filter
+  pub index : table.index ≡ places_from 0 blocks
+  pub len : table.file.len ≡ length (numbered_frames (table_bodies table.foot.lo table.foot.hi blocks table.filter))
+  pub file : IfSome (told table.file.file) (λ bytes. bytes ≡ numbered_frames (table_bodies table.foot.lo table.foot.hi blocks table.filter))

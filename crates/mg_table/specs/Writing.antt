@@ -1,0 +1,85 @@
+-- A table in writing.
+use Rattle.std.specs.Prelude.{◌≡◌, ◌≢◌, ℕ, ◌-◌, ◌*◌, ◌≤◌, ◌<◌, ◌^◌, ◌⊎◌, List, [], ◌∷◌, ◌++◌, length, map, Option}
+use Rattle.std.specs.List.{All}
+use Rattle.mg_block.specs.Block.{block_of}
+use Rattle.mg_block.specs.declared.pair.Pair.{Pair}
+use Rattle.mg_model.specs.declared.faults.FileId.{FileId}
+use Rattle.mg_sealed.specs.Filling.{AreFilled, items_of}
+use Rattle.mg_sealed.specs.Writing.{Written, HasFrames}
+use Rattle.mg_table.specs.Entries.{block_body, first_key, pair_of, AreEntries}
+use Rattle.mg_table.specs.Index.{places_from, IsPlace}
+use Rattle.mg_table.specs.Table.{hashed_keys, sizes_of}
+use Rattle.mg_table.specs.declared.entry.Entry.{Entry}
+use Rattle.mg_table.specs.declared.index.BlockPlace.{BlockPlace}
+
+-- the blocks that were closed: their frames, and where they stand
+pub record ClosedBlocks (D : Type 0) : Type 0 where
+  pub frames : Written D
+  pub index : List BlockPlace
+
+-- no frame is longer than a full block's, and no more blocks are in the index than have a frame
+pub record AreBounded {D : Type 0} (closed : ClosedBlocks D) : Type 0 where
+  pub len : closed.frames.len ≤ 4116 * closed.frames.count
+  pub index : length closed.index ≤ closed.frames.count
+  pub places : All IsPlace closed.index
+
+-- the closed blocks are these
+pub record HasBlocks {D : Type 0} (drafted : D → Option (List ℕ)) (closed : ClosedBlocks D) (blocks : List (List Entry)) : Type 0 where
+  pub frames : HasFrames drafted closed.frames (map block_body blocks)
+  pub index : closed.index ≡ places_from 0 blocks
+
+-- what a writer keeps: the closed blocks, the open one with its first key, what the keys were hashed to, and the sum of sizes
+pub record Writing (D : Type 0) : Type 0 where
+  pub id : FileId
+  pub lo : ℕ
+  pub hi : ℕ
+  pub closed : ClosedBlocks D
+  pub block : List Pair
+  pub first : List ℕ
+  pub hashed : List (List ℕ)
+  pub sizes : ℕ
+
+-- a block more and an entry more find room
+pub record HasRoom {D : Type 0} (writer : Writing D) : Type 0 where
+  pub blocks : writer.closed.frames.count < 2 ^ 23 - 2
+  pub entries : length writer.hashed < 2 ^ 32
+
+-- what a writer keeps is bounded
+pub record IsBounded {D : Type 0} (writer : Writing D) : Type 0 where
+  pub lo : writer.lo < 2 ^ 62
+  pub hi : writer.hi < 2 ^ 62
+  pub blocks : writer.closed.frames.count ≤ 2 ^ 23 - 2
+  pub block : length (block_of writer.block) ≤ 4096
+  pub first : length writer.first ≤ 250
+  pub hashed : length writer.hashed ≤ 2 ^ 32
+  pub sizes : writer.sizes ≤ 1048826 * length writer.hashed
+
+-- no block is begun; or the blocks with the open one behind them are filled in order, and the open one is not empty
+abbrev pub Fills : List (List Entry) → List Entry → Type 0
+Fills blocks last = ((blocks ≡ []) × (last ≡ [])) ⊎ ((last ≢ []) × AreFilled block_body (blocks ++ last ∷ []))
+
+-- An entry may be put into the open block: the entries are those that stood in other blocks before, and with the entry the
+-- blocks are filled.
+pub record IsReady {D : Type 0} (drafted : D → Option (List ℕ)) (closed : ClosedBlocks D) (block : List Pair) (blocks : List (List Entry)) (last : List Entry) (entry : Entry) : Type 0 where
+  pub now : List (List Entry)
+  pub opened : List Entry
+  pub closed_are : HasBlocks drafted closed now
+  pub block_is : block ≡ map pair_of opened
+  pub same : items_of now ++ opened ≡ items_of blocks ++ last
+  pub kept : (opened ≡ []) ⊎ (opened ≡ last)
+  pub filled : AreFilled block_body (now ++ (opened ++ entry ∷ []) ∷ [])
+
+-- The writer stands behind these entries, in these closed blocks and the open one.
+pub record IsWriting {D : Type 0} (drafted : D → Option (List ℕ)) (writer : Writing D) (entries : List Entry) (blocks : List (List Entry)) (last : List Entry) : Type 0 where
+  pub closed : HasBlocks drafted writer.closed blocks
+  pub block : writer.block ≡ map pair_of last
+  pub first : last ≢ [] → writer.first ≡ first_key last
+  pub hashed : writer.hashed ≡ hashed_keys entries
+  pub sizes : writer.sizes ≡ sizes_of entries
+  pub rising : AreEntries entries
+  pub parts : items_of blocks ++ last ≡ entries
+  pub filled : Fills blocks last
+
+-- the writer stands behind these entries
+abbrev pub HasEntries : {D : Type 0} → (D → Option (List ℕ)) → Writing D → List Entry → Type 0
+HasEntries drafted writer entries = (blocks : List (List Entry)) × (last : List Entry) × IsWriting drafted writer entries blocks last

@@ -1,0 +1,269 @@
+use super::*;
+use mg_disk::Files;
+use mg_memdisk::{MemDraft, MemFiles, MemSealed};
+use mg_model::{Fault, FileId, Key};
+use std::alloc::Global;
+use std::test::Fail;
+
+const ID: FileId = FileId {
+    part: 0,
+    kind: 1,
+    number: 7,
+};
+
+/// The table over (0, 3] of a (number 3, size 2) and b (number 2, size 2), made by another program.
+const WORKED: [u8; 189] = [
+    0x00, 0x00, 0x00, 0x22, 0x00, 0x00, 0x00, 0x00, 0x00, 0x00, 0x00, 0x00, 0x00, 0x01, 0x61, 0x0d,
+    0x00, 0x00, 0x00, 0x00, 0x00, 0x00, 0x00, 0x03, 0x00, 0x00, 0x00, 0x02, 0x00, 0x00, 0x01, 0x62,
+    0x0d, 0x00, 0x00, 0x00, 0x00, 0x00, 0x00, 0x00, 0x02, 0x00, 0x00, 0x00, 0x02, 0x00, 0x62, 0xa0,
+    0x30, 0x85, 0x1e, 0xa7, 0x39, 0xd3, 0x00, 0x00, 0x00, 0x0e, 0x00, 0x00, 0x00, 0x00, 0x00, 0x00,
+    0x00, 0x01, 0x01, 0x61, 0x00, 0x00, 0x00, 0x00, 0x00, 0x00, 0x00, 0x00, 0x00, 0x00, 0x00, 0x36,
+    0x30, 0xcd, 0xc5, 0x97, 0x05, 0xc1, 0xb2, 0x3a, 0x00, 0x00, 0x00, 0x08, 0x00, 0x00, 0x00, 0x00,
+    0x00, 0x00, 0x00, 0x02, 0x21, 0x24, 0x44, 0x00, 0x20, 0x40, 0x1c, 0x01, 0x0a, 0xa2, 0xb3, 0x4f,
+    0xfb, 0x35, 0xa7, 0x7a, 0x00, 0x00, 0x00, 0x35, 0x00, 0x00, 0x00, 0x00, 0x00, 0x00, 0x00, 0x03,
+    0x01, 0x00, 0x00, 0x00, 0x00, 0x00, 0x00, 0x00, 0x02, 0x00, 0x00, 0x00, 0x00, 0x00, 0x00, 0x00,
+    0x04, 0x00, 0x00, 0x00, 0x00, 0x00, 0x00, 0x00, 0x00, 0x00, 0x00, 0x00, 0x00, 0x00, 0x00, 0x00,
+    0x03, 0x00, 0x00, 0x00, 0x00, 0x00, 0x00, 0x00, 0x36, 0x00, 0x00, 0x00, 0x00, 0x00, 0x00, 0x00,
+    0x58, 0x00, 0x00, 0x00, 0x01, 0xec, 0x08, 0x33, 0xe8, 0xe2, 0xe7, 0xe1, 0xc2,
+];
+
+fn entry(alloc: Global, key: &[u8], seq: u64, size: u32, gone: bool) -> Result<Entry, Fault> {
+    let Some(key) = Key::new(alloc, key)? else {
+        return Err(Fault::BadWords);
+    };
+    Ok(Entry {
+        key,
+        seq,
+        size,
+        gone,
+    })
+}
+
+fn push(
+    alloc: Global,
+    port: &mut MemFiles,
+    writer: &mut TableWriter<MemDraft>,
+    entry: &Entry,
+) -> Result<(), Fault> {
+    let fits = entry.seq < 1 << 62 && entry.size >= 1 && entry.size <= 1_048_826;
+    if writer.is_full() || !writer.is_above(&entry.key) || !fits {
+        return Err(Fault::BadWords);
+    }
+    push_entry(alloc, port, writer, entry)
+}
+
+fn worked(alloc: Global, port: &mut MemFiles) -> Result<Table<MemSealed>, Fault> {
+    let mut writer = start_table(alloc, port, ID, 0, 3)?;
+    push(alloc, port, &mut writer, &entry(alloc, b"a", 3, 2, false)?)?;
+    push(alloc, port, &mut writer, &entry(alloc, b"b", 2, 2, false)?)?;
+    if writer.is_empty() {
+        return Err(Fault::BadWords);
+    }
+    finish_table(alloc, port, writer)
+}
+
+fn bytes_of(
+    alloc: Global,
+    port: &mut MemFiles,
+    table: &Table<MemSealed>,
+) -> Result<Vec<u8>, Fault> {
+    let mut bytes = vec![in alloc; 0u8; 10_000]?;
+    let Ok(count) = port.read(alloc, &table.file.file, 0, &mut bytes) else {
+        return Err(Fault::ReadFault);
+    };
+    bytes.truncate(count);
+    Ok(bytes)
+}
+
+#[test]
+fn a_table_is_the_worked_one(rt: HostRuntime) -> Result<(), Fail> {
+    let alloc = rt.alloc();
+    let mut port = MemFiles::new(Vec::new(alloc));
+    let table = worked(alloc, &mut port)?;
+    assert_eq!(rt; table.count(), 2);
+    assert_eq!(rt; table.bytes(), 4);
+    assert_eq!(rt; table.span(), (0, 3));
+    assert_eq!(rt;
+        bytes_of(alloc, &mut port, &table)?.as_slice(),
+        WORKED.as_slice()
+    );
+    Ok(())
+}
+
+fn seal(alloc: Global, port: &mut MemFiles, bytes: &[u8]) -> Result<MemSealed, Fault> {
+    let Ok(mut draft) = port.fresh(alloc) else {
+        return Err(Fault::WriteFault);
+    };
+    if port.append(alloc, &mut draft, bytes).is_err() {
+        return Err(Fault::WriteFault);
+    }
+    port.seal(alloc, draft).map_err(|_| Fault::WriteFault)
+}
+
+/// The table of these bytes, of which this length is kept.
+fn load(
+    alloc: Global,
+    port: &mut MemFiles,
+    bytes: &[u8],
+    len: u64,
+) -> Result<Table<MemSealed>, Fault> {
+    let file = seal(alloc, port, bytes)?;
+    if len >= 1 << 62 {
+        return Err(Fault::BadWords);
+    }
+    load_table(alloc, port, ID, file, len)
+}
+
+#[test]
+fn the_worked_table_is_loaded(rt: HostRuntime) -> Result<(), Fail> {
+    let alloc = rt.alloc();
+    let mut port = MemFiles::new(Vec::new(alloc));
+    let table = load(alloc, &mut port, &WORKED, 189)?;
+    assert_eq!(rt; table.count(), 2);
+    assert_eq!(rt; table.bytes(), 4);
+    assert_eq!(rt; table.span(), (0, 3));
+    assert_eq!(rt; table.index.len(), 1);
+    let place = &table.index.as_slice()[0];
+    assert_eq!(rt; place.key.as_slice(), b"a".as_slice());
+    assert_eq!(rt; (place.at, place.len), (0, 54));
+    assert_eq!(rt;
+        table.filter.bytes(),
+        [0x21, 0x24, 0x44, 0, 0x20, 0x40, 0x1c, 1].as_slice()
+    );
+    Ok(())
+}
+
+/// What a table has of a key: number and size, and whether it is a delete.
+fn found(
+    alloc: Global,
+    port: &mut MemFiles,
+    table: &Table<MemSealed>,
+    key: &[u8],
+) -> Result<Option<(u64, u32, bool)>, Fault> {
+    let Some(key) = Key::new(alloc, key)? else {
+        return Err(Fault::BadWords);
+    };
+    let entry = find(alloc, port, table, &key)?;
+    Ok(entry.map(|entry| (entry.seq, entry.size, entry.gone)))
+}
+
+#[test]
+fn the_worked_table_answers(rt: HostRuntime) -> Result<(), Fail> {
+    let alloc = rt.alloc();
+    let mut port = MemFiles::new(Vec::new(alloc));
+    let table = worked(alloc, &mut port)?;
+    assert!(rt; found(alloc, &mut port, &table, b"a")? == Some((3, 2, false)));
+    assert!(rt; found(alloc, &mut port, &table, b"b")? == Some((2, 2, false)));
+    assert!(rt; found(alloc, &mut port, &table, b"c")?.is_none());
+    assert!(rt; found(alloc, &mut port, &table, b"A")?.is_none());
+    let all = scan(alloc, &mut port, &table)?;
+    assert_eq!(rt; all.len(), 2);
+    for (entry, (key, seq)) in all
+        .as_slice()
+        .iter()
+        .zip([(b"a".as_slice(), 3), (b"b".as_slice(), 2)])
+    {
+        assert_eq!(rt; entry.key.bytes(), key);
+        assert_eq!(rt; entry.seq, seq);
+    }
+    Ok(())
+}
+
+/// Whether the entries are those of the worked table.
+fn is_worked(entries: &[Entry]) -> bool {
+    let [first, second] = entries else {
+        return false;
+    };
+    first.key.bytes() == b"a".as_slice()
+        && (first.seq, first.size, first.gone) == (3, 2, false)
+        && second.key.bytes() == b"b".as_slice()
+        && (second.seq, second.size, second.gone) == (2, 2, false)
+}
+
+/// Whether a file of these bytes and of this length is refused by its name, or is the worked table.
+fn is_refused_or_worked(alloc: Global, bytes: &[u8], len: u64) -> bool {
+    let mut port = MemFiles::new(Vec::new(alloc));
+    let entries = match load(alloc, &mut port, bytes, len) {
+        Ok(table) => scan(alloc, &mut port, &table),
+        Err(fault) => Err(fault),
+    };
+    match entries {
+        Ok(entries) => is_worked(entries.as_slice()),
+        Err(Fault::Damaged { file, .. }) => file == ID,
+        Err(Fault::Malformed { file, .. }) => file == ID,
+        Err(_) => false,
+    }
+}
+
+#[test]
+fn each_altered_byte_is_refused_or_changes_nothing(rt: HostRuntime) {
+    for at in 0..WORKED.len() {
+        for change in [1u8, 2, 4, 8, 16, 32, 64, 128, 255] {
+            let mut bytes = WORKED;
+            bytes[at] ^= change;
+            let fine = is_refused_or_worked(rt.alloc(), &bytes, 189);
+            assert!(rt; fine, "byte {at}, change {change}");
+        }
+    }
+}
+
+#[test]
+fn each_cut_is_refused(rt: HostRuntime) -> Result<(), Fail> {
+    let alloc = rt.alloc();
+    for len in 0..WORKED.len() {
+        let mut port = MemFiles::new(Vec::new(alloc));
+        let cut = load(alloc, &mut port, &WORKED[..len], len as u64);
+        assert!(rt;
+            matches!(cut, Err(Fault::Damaged { .. } | Fault::Malformed { .. })),
+            "cut at {len}"
+        );
+        let kept = load(alloc, &mut port, &WORKED[..len], 189);
+        let damaged = Fault::Damaged {
+            file: ID,
+            at: 0,
+            kept: 189,
+            found: len as u64,
+        };
+        assert_eq!(rt; kept.err(), Some(damaged), "cut at {len}");
+    }
+    Ok(())
+}
+
+/// A key of 20 bytes.
+fn key_of(number: u64) -> [u8; 20] {
+    let mut key = *b"key number 000000000";
+    let mut left = number;
+    for at in (11..20).rev() {
+        if at < 20 {
+            key[at] = b'0' + (left % 10) as u8;
+        }
+        left /= 10;
+    }
+    key
+}
+
+#[test]
+fn each_of_many_keys_is_found_and_no_other(rt: HostRuntime) -> Result<(), Fail> {
+    let alloc = rt.alloc();
+    let mut port = MemFiles::new(Vec::new(alloc));
+    let mut writer = start_table(alloc, &mut port, ID, 0, 300)?;
+    for number in 0..300u64 {
+        let entry = entry(alloc, &key_of(2 * number), number + 1, 23, number % 3 == 0)?;
+        push(alloc, &mut port, &mut writer, &entry)?;
+    }
+    if writer.is_empty() {
+        return Err(Fault::BadWords)?;
+    }
+    let table = finish_table(alloc, &mut port, writer)?;
+    // Made by another program: 5,933 bytes, of which the first block's frame has the most.
+    assert_eq!(rt; bytes_of(alloc, &mut port, &table)?.len(), 5_933);
+    assert_eq!(rt; table.index.len(), 2);
+    for number in 0..300u64 {
+        let seen = found(alloc, &mut port, &table, &key_of(2 * number))?;
+        assert!(rt; seen == Some((number + 1, 23, number % 3 == 0)), "{number}");
+        let between = found(alloc, &mut port, &table, &key_of(2 * number + 1))?;
+        assert!(rt; between.is_none(), "{number}");
+    }
+    assert_eq!(rt; scan(alloc, &mut port, &table)?.len(), 300);
+    Ok(())
+}
