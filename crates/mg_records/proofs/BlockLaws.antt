@@ -1,0 +1,137 @@
+-- Lists of records, one record or one block more at a time.
+use Rattle.std.proofs.Common.{◌≡◌, ◌≢◌, ℕ, ◌*◌, ◌<◌, ◌≤◌, ◌⊎◌, List, [], ◌∷◌, ◌++◌, length, refl, sym, ap, ◌∙◌, inl, inr, arith, append_assoc}
+use Rattle.std.proofs.lemmas.List.{append-nil, length-append}
+use Rattle.std.proofs.lemmas.List.Sums.{sum_by-cons}
+use Rattle.std.specs.Prelude.{sum_by}
+use Rattle.std.specs.List.{AllByRecursion}
+use Rattle.mg_records.specs.File.{block_of, first_number, last_number, last_number_after, RiseAfter, AreRising}
+use Rattle.mg_sealed.specs.Filling.{Fits, IsClosed, AreFilled, items_of}
+use Rattle.mg_records.specs.Record.{Kind, IsLawful}
+
+-- ---- what holds of each record
+
+pub each-left : {T : Type 0} (P : T → Type 0) (xs ys : List T) → AllByRecursion P (xs ++ ys) → AllByRecursion P xs
+each-left P [] ys h = tt
+each-left P (x ∷ xs) ys h = (h.0, each-left P xs ys h.1)
+
+pub each-right : {T : Type 0} (P : T → Type 0) (xs ys : List T) → AllByRecursion P (xs ++ ys) → AllByRecursion P ys
+each-right P [] ys h = h
+each-right P (x ∷ xs) ys h = each-right P xs ys h.1
+
+pub each-append : {T : Type 0} (P : T → Type 0) (xs ys : List T) → AllByRecursion P xs → AllByRecursion P ys → AllByRecursion P (xs ++ ys)
+each-append P [] ys h k = k
+each-append P (x ∷ xs) ys h k = (h.0, each-append P xs ys h.1 k)
+
+-- ---- the body of a block
+
+pub block_of-append : {T : Type 0} (kind : Kind T) (xs ys : List T) → block_of kind (xs ++ ys) ≡ block_of kind xs ++ block_of kind ys
+block_of-append kind [] ys = refl
+block_of-append kind (x ∷ xs) ys =
+    ap (λ bytes. kind.spelled x ++ bytes) (block_of-append kind xs ys) ∙ sym (append_assoc (kind.spelled x) (block_of kind xs) (block_of kind ys))
+
+pub block_of-one : {T : Type 0} (kind : Kind T) (it : T) → block_of kind (it ∷ []) ≡ kind.spelled it
+block_of-one kind it = append-nil (kind.spelled it)
+
+pub block_of-push : {T : Type 0} (kind : Kind T) (xs : List T) (it : T) → block_of kind (xs ++ it ∷ []) ≡ block_of kind xs ++ kind.spelled it
+block_of-push kind xs it = block_of-append kind xs (it ∷ []) ∙ ap (λ bytes. block_of kind xs ++ bytes) (block_of-one kind it)
+
+-- each record has a byte at least
+pub count_in_bytes : {T : Type 0} (kind : Kind T) → IsLawful kind → (xs : List T) → AllByRecursion kind.fits xs → length xs ≤ length (block_of kind xs)
+count_in_bytes kind lawful [] fit = omega arith
+count_in_bytes kind lawful (x ∷ xs) fit =
+    omega (arith, lawful.some_bytes x fit.0, count_in_bytes kind lawful xs fit.1, length-append (kind.spelled x) (block_of kind xs))
+
+pub sizes_in_count : {T : Type 0} (kind : Kind T) → IsLawful kind → (xs : List T) → AllByRecursion kind.fits xs → sum_by kind.size xs ≤ 1048826 * length xs
+sizes_in_count kind lawful [] fit = omega arith
+sizes_in_count kind lawful (x ∷ xs) fit =
+    omega (arith, lawful.most_size x fit.0, sizes_in_count kind lawful xs fit.1, sum_by-cons kind.size x xs)
+
+-- ---- numbers
+
+pub last_number_after-push : {T : Type 0} (kind : Kind T) (number : ℕ) (xs : List T) (it : T) → last_number_after kind number (xs ++ it ∷ []) ≡ kind.seq it
+last_number_after-push kind number [] it = refl
+last_number_after-push kind number (x ∷ xs) it = last_number_after-push kind (kind.seq x) xs it
+
+pub first_number-push : {T : Type 0} (kind : Kind T) (xs : List T) (it : T) → xs ≢ [] → first_number kind (xs ++ it ∷ []) ≡ first_number kind xs
+first_number-push kind [] it some = absurd (some refl)
+first_number-push kind (x ∷ xs) it some = refl
+
+pub rise-push : {T : Type 0} (kind : Kind T) (x : T) (xs : List T) (it : T) → RiseAfter kind x xs → last_number_after kind (kind.seq x) xs < kind.seq it
+    → RiseAfter kind x (xs ++ it ∷ [])
+rise-push kind x [] it rise above = (above, tt)
+rise-push kind x (y ∷ xs) it rise above = (rise.0, rise-push kind y xs it rise.1 above)
+
+pub AreRising-push : {T : Type 0} (kind : Kind T) (xs : List T) (it : T) → AreRising kind xs → (length xs ≡ 0) ⊎ (last_number kind xs < kind.seq it) → AreRising kind (xs ++ it ∷ [])
+AreRising-push kind [] it rise above = tt
+AreRising-push kind (x ∷ xs) it rise (inl none) = absurd (omega (arith, none))
+AreRising-push kind (x ∷ xs) it rise (inr above) = rise-push kind x xs it rise above
+
+-- ---- blocks
+
+pub items_of-append : {T : Type 0} (blocks more : List (List T)) → items_of (blocks ++ more) ≡ items_of blocks ++ items_of more
+items_of-append [] more = refl
+items_of-append (b ∷ blocks) more = ap (λ xs. b ++ xs) (items_of-append blocks more) ∙ sym (append_assoc b (items_of blocks) (items_of more))
+
+pub items_of-push : {T : Type 0} (blocks : List (List T)) (xs : List T) → items_of (blocks ++ xs ∷ []) ≡ items_of blocks ++ xs
+items_of-push blocks xs = items_of-append blocks (xs ∷ []) ∙ ap (λ ys. items_of blocks ++ ys) (append-nil xs)
+
+-- a block has at most 4,096 records
+pub most_in_block : {T : Type 0} (kind : Kind T) → IsLawful kind → (xs : List T) → AllByRecursion kind.fits xs → Fits (block_of kind) xs → length xs ≤ 4096
+most_in_block kind lawful xs fit fits = elim fits.small [
+  | inl small ↦ omega (arith, small, count_in_bytes kind lawful xs fit)
+  | inr one ↦ omega (arith, one)
+]
+
+-- blocks have at most 4,096 records each
+pub most_records : {T : Type 0} (kind : Kind T) → IsLawful kind → (blocks : List (List T)) → AreFilled (block_of kind) blocks → AllByRecursion kind.fits (items_of blocks)
+    → length (items_of blocks) ≤ 4096 * length blocks
+most_records kind lawful [] filled fit = omega arith
+most_records kind lawful (b ∷ blocks) filled fit =
+    omega (
+      arith,
+      most_in_block kind lawful b (each-left kind.fits b (items_of blocks) fit) filled.0,
+      most_records kind lawful blocks filled.2 (each-right kind.fits b (items_of blocks) fit),
+      length-append b (items_of blocks),
+    )
+
+-- no block is empty
+pub last_is_some : {T : Type 0} (kind : Kind T) (blocks : List (List T)) (xs : List T) → AreFilled (block_of kind) (blocks ++ xs ∷ []) → xs ≢ []
+last_is_some kind [] xs filled = filled.0.some
+last_is_some kind (b ∷ blocks) xs filled = last_is_some kind blocks xs filled.2
+
+closed_by_first : {T : Type 0} (kind : Kind T) (b : List T) (blocks : List (List T)) (xs : List T) (it : T) → xs ≢ []
+    → IsClosed (block_of kind) b (blocks ++ xs ∷ []) → IsClosed (block_of kind) b (blocks ++ (xs ++ it ∷ []) ∷ [])
+closed_by_first kind b [] [] it some closed = absurd (some refl)
+closed_by_first kind b [] (x ∷ xs) it some closed = closed
+closed_by_first kind b ([] ∷ blocks) xs it some closed = tt
+closed_by_first kind b ((y ∷ c) ∷ blocks) xs it some closed = closed
+
+pub push-some : {T : Type 0} (xs : List T) (it : T) → xs ++ it ∷ [] ≢ []
+push-some [] it e = cc
+push-some (x ∷ xs) it e = cc
+
+-- the last block grows by a record for which it has room
+pub filled-more : {T : Type 0} (kind : Kind T) (blocks : List (List T)) (xs : List T) (it : T) → AreFilled (block_of kind) (blocks ++ xs ∷ [])
+    → length (block_of kind (xs ++ it ∷ [])) ≤ 4096 → AreFilled (block_of kind) (blocks ++ (xs ++ it ∷ []) ∷ [])
+filled-more kind [] xs it filled room = (record { some = push-some xs it; small = inl room }, tt, tt)
+filled-more kind (b ∷ blocks) xs it filled room =
+    (filled.0, closed_by_first kind b blocks xs it (last_is_some kind blocks xs filled.2) filled.1, filled-more kind blocks xs it filled.2 room)
+
+alone-fits : {T : Type 0} (kind : Kind T) (it : T) → Fits (block_of kind) (it ∷ [])
+alone-fits kind it = record { some = push-some [] it; small = inr refl }
+
+pub alone-filled : {T : Type 0} (kind : Kind T) (it : T) → AreFilled (block_of kind) ((it ∷ []) ∷ [])
+alone-filled kind it = (alone-fits kind it, tt, tt)
+
+closed_still : {T : Type 0} (kind : Kind T) (b : List T) (blocks more : List (List T)) → blocks ≢ []
+    → IsClosed (block_of kind) b blocks → IsClosed (block_of kind) b (blocks ++ more)
+closed_still kind b [] more some closed = absurd (some refl)
+closed_still kind b ([] ∷ blocks) more some closed = tt
+closed_still kind b ((y ∷ c) ∷ blocks) more some closed = closed
+
+-- a record for which the last block has no room begins another
+pub filled-new : {T : Type 0} (kind : Kind T) (blocks : List (List T)) (xs : List T) (it : T) → AreFilled (block_of kind) (blocks ++ xs ∷ [])
+    → 4096 < length (block_of kind (xs ++ it ∷ [])) → AreFilled (block_of kind) ((blocks ++ xs ∷ []) ++ (it ∷ []) ∷ [])
+filled-new kind [] xs it filled full = (filled.0, full, alone-filled kind it)
+filled-new kind (b ∷ blocks) xs it filled full =
+    (filled.0, closed_still kind b (blocks ++ xs ∷ []) ((it ∷ []) ∷ []) (push-some blocks xs) filled.1, filled-new kind blocks xs it filled.2 full)

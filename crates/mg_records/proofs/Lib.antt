@@ -1,0 +1,13 @@
+pub mod BlockLaws
+mod ContentsReading
+pub mod EntryLaws
+pub mod FieldLaws
+pub mod FileLaws
+pub mod FootCounts
+mod ItemReading
+pub mod KnownLaws
+pub mod LoadingLaws
+pub mod LookupLaws
+pub mod RefusalLaws
+pub mod ScanLaws
+pub mod WriterLaws

@@ -1,0 +1,352 @@
+-- The blocks of a file, where its index says that they stand.
+use Rattle.std.proofs.Common.{◌≡◌, ℕ, ◌+◌, ◌-◌, ◌<◌, ◌≤◌, ◌^◌, ◌⊎◌, Bool, true, false, List, [], ◌∷◌, ◌++◌, length, drop, refl, sym, ap, ◌∙◌, subst, arith, append_assoc, suc, zero, Option, Some, None, IfSome, inl, inr, Result, Ok, Err, MatchResult, slice_index_or}
+use Rattle.std.proofs.lemmas.List.{append-nil, length-append, length-map, map-append, drop_at, drop_all}
+use Rattle.std.proofs.lemmas.List.Elements.{filter-append}
+use Rattle.std.proofs.lemmas.List.Sums.{sum_by-cons}
+use Rattle.std.specs.Prelude.{filter, map, nat_lt, IsSome, IfErr}
+use Rattle.std.specs.List.{AllByRecursion}
+use Rattle.std.specs.List.Sorted.{IsNonDecreasingBy, IsPartitionPoint}
+use Rattle.mg_frame.specs.Frames.{numbered_frames}
+use Rattle.mg_model.specs.declared.faults.Fault.{Fault}
+use Rattle.mg_model.specs.declared.faults.Fault.TheVariants.{NoMemory}
+use Rattle.mg_model.specs.declared.faults.FileId.{FileId}
+use Rattle.mg_sealed.specs.Answers.{Answers, IsOutside}
+use Rattle.mg_sealed.specs.Filling.{Fits, AreFilled, items_of}
+use Rattle.mg_sealed.specs.Reading.{frame_body}
+use Rattle.mg_sealed.proofs.WrittenLaws.{written_frame_is_read}
+use Rattle.mg_records.specs.File.{block_of, first_number, last_number, last_number_after, frame_length, index_from, end_of, RiseAfter, AreRising, AreBlocks, foot_of, bodies_of, index_bytes, foot_bytes, record_of}
+use Rattle.mg_records.specs.Record.{Kind, IsLawful}
+use Rattle.mg_records.specs.Reading.{IsIndexFrom, IsBlock, IsBlockFault, IsUnfit}
+use Rattle.mg_records.specs.Writing.{Filed, Holds}
+use Rattle.mg_records.specs.declared.index.Entry.{Entry}
+use Rattle.mg_records.proofs.BlockLaws.{each-left, each-right}
+use Rattle.mg_records.proofs.FileLaws.{length-index_from, length-blocks}
+use Rattle.mg_records.proofs.LoadingLaws.{most_bytes, index_from_is_index}
+use Rattle.mg_records.proofs.ScanLaws.{record_of-later, filter-pass}
+
+-- ---- where a block stands
+
+-- the blocks before one, that one, and those behind it
+pub record Parts {T : Type 0} (blocks : List (List T)) (number : ℕ) : Type 0 where
+  pub before : List (List T)
+  pub block : List T
+  pub later : List (List T)
+  pub all : blocks ≡ before ++ block ∷ later
+  pub many : length before ≡ number
+
+pub parts : {T : Type 0} (blocks : List (List T)) (number : ℕ) → number < length blocks → Parts blocks number
+parts [] number within = absurd (omega (arith, within))
+parts (b ∷ blocks) zero within = record { before = []; block = b; later = blocks; all = refl; many = refl }
+parts (b ∷ blocks) (suc number) within =
+    let rest = parts blocks number (omega (arith, within)) in
+    record { before = b ∷ rest.before; block = rest.block; later = rest.later; all = ap (λ bs. b ∷ bs) rest.all; many = ap suc rest.many }
+
+-- the index says of a block its first number, where the frames before it end, and its length
+pub entry_is : {T : Type 0} (kind : Kind T) (at : ℕ) (before : List (List T)) (block : List T) (later : List (List T)) (d : Entry)
+    → slice_index_or (index_from kind at (before ++ block ∷ later)) (length before) d
+    ≡ record { first = first_number kind block; at = at + end_of kind before; len = frame_length kind block }
+entry_is kind at [] block later d = ap (λ n. record { first = first_number kind block; at = n; len = frame_length kind block }) (omega arith)
+entry_is kind at (b ∷ before) block later d =
+    entry_is kind (at + frame_length kind b) before block later d
+    ∙ ap (λ n. record { first = first_number kind block; at = n; len = frame_length kind block }) (omega (arith, sum_by-cons (frame_length kind) b before))
+
+items_of-parts : {T : Type 0} (before : List (List T)) (block : List T) (later : List (List T)) → items_of (before ++ block ∷ later) ≡ items_of before ++ (block ++ items_of later)
+items_of-parts [] block later = refl
+items_of-parts (b ∷ before) block later = ap (λ xs. b ++ xs) (items_of-parts before block later) ∙ sym (append_assoc b (items_of before) (block ++ items_of later))
+
+filled-parts : {T : Type 0} (kind : Kind T) (before : List (List T)) (block : List T) (later : List (List T)) → AreFilled (block_of kind) (before ++ block ∷ later)
+    → Fits (block_of kind) block × AreFilled (block_of kind) later
+filled-parts kind [] block later filled = (filled.0, filled.2)
+filled-parts kind (b ∷ before) block later filled = filled-parts kind before block later filled.2
+
+pub fits-parts : {T : Type 0} (kind : Kind T) (before : List (List T)) (block : List T) (later : List (List T)) → AllByRecursion kind.fits (items_of (before ++ block ∷ later))
+    → AllByRecursion kind.fits block
+fits-parts {T} kind before block later fit =
+    each-left kind.fits block (items_of later) (each-right kind.fits (items_of before) (block ++ items_of later)
+    (subst (λ xs. AllByRecursion kind.fits xs) (items_of-parts before block later) fit))
+
+-- what stands at the place of a block is its body
+pub reads_block : {T : Type 0} (kind : Kind T) → IsLawful kind → (id : FileId) (bytes : List ℕ) (before : List (List T)) (block : List T) (later : List (List T))
+    → AreBlocks kind (before ++ block ∷ later) → bytes ≡ numbered_frames (bodies_of kind (before ++ block ∷ later))
+    → frame_body id bytes (end_of kind before) (length before) ≡ Ok (block_of kind block)
+reads_block {T} kind lawful id bytes before block later are is =
+    let bodies : List (List T) → List (List ℕ) = map (block_of kind) in
+    let blocks = before ++ block ∷ later in
+    let behind = index_bytes (index_from kind 0 blocks) ∷ foot_bytes (foot_of kind blocks) ∷ [] in
+    let many : length (bodies before) ≡ length before = length-map before (block_of kind) in
+    let few : length before < 2 ^ 23 = omega (arith, are.few, length-append before (block ∷ later)) in
+    let small = most_bytes kind lawful block (fits-parts kind before block later are.fit) (filled-parts kind before block later are.filled).0 in
+    let split : bodies_of kind blocks ≡ bodies before ++ (block_of kind block ∷ (bodies later ++ behind)) =
+    ap (λ xs. xs ++ behind) (map-append (block_of kind) before (block ∷ later)) ∙ append_assoc (bodies before) (block_of kind block ∷ bodies later) behind in
+    let whole = written_frame_is_read id (bodies before) (bodies later ++ behind) (block_of kind block) (omega (arith, few, many)) (omega (arith, small)) in
+    ap (λ (b : List ℕ). frame_body id b (end_of kind before) (length before)) (is ∙ ap numbered_frames split)
+    ∙ ap (λ (at : ℕ). frame_body id (numbered_frames (bodies before ++ (block_of kind block ∷ (bodies later ++ behind)))) at (length before)) (sym (length-blocks kind before))
+    ∙ ap (λ (n : ℕ). frame_body id (numbered_frames (bodies before ++ (block_of kind block ∷ (bodies later ++ behind)))) (length (numbered_frames (bodies before))) n) (sym many)
+    ∙ whole
+
+told_both : {A B : Type 0} (o : Option A) (P Q : A → Type 0) → ((a : A) → P a → Q a → B) → IsSome o → IfSome o P → IfSome o Q → B
+told_both None P Q step some p q = let e : false ≡ true = some in absurd cc
+told_both (Some a) P Q step some p q = step a p q
+
+-- what is read of the block of a number
+pub block_read : {T S : Type 0} (kind : Kind T) → IsLawful kind → (told : S → Option (List ℕ)) (filed : Filed S) (records : List T) (holds : Holds kind told filed records)
+    (number : ℕ) (entry : Entry) (result : Result (List ℕ) Fault) → IsSome (told filed.file.file) → number < length filed.index → entry ≡ slice_index_or filed.index number entry
+    → IfSome (told filed.file.file) (λ bytes. filed.file.len ≡ length bytes → Answers (frame_body filed.file.id bytes entry.at number) result)
+    → (p : Parts holds.blocks number) × (entry ≡ record { first = first_number kind p.block; at = end_of kind p.before; len = frame_length kind p.block })
+    × Answers (Ok (block_of kind p.block)) result
+block_read {T} {S} kind lawful told filed records holds number entry result some within is known =
+    let many : length filed.index ≡ length holds.blocks = ap length holds.index ∙ length-index_from kind 0 holds.blocks in
+    let p = parts holds.blocks number (omega (arith, within, many)) in
+    let id = filed.file.id in
+    let entry' : entry ≡ record { first = first_number kind p.block; at = end_of kind p.before; len = frame_length kind p.block } =
+    is ∙ ap (λ es. slice_index_or es number entry) holds.index
+    ∙ ap (λ bs. slice_index_or (index_from kind 0 bs) number entry) p.all
+    ∙ ap (λ n. slice_index_or (index_from kind 0 (p.before ++ p.block ∷ p.later)) n entry) (sym p.many)
+    ∙ entry_is kind 0 p.before p.block p.later entry
+    ∙ ap (λ n. record { first = first_number kind p.block; at = n; len = frame_length kind p.block }) (omega arith) in
+    let answer = told_both (told filed.file.file) (λ bytes. bytes ≡ numbered_frames (bodies_of kind holds.blocks))
+    (λ bytes. filed.file.len ≡ length bytes → Answers (frame_body id bytes entry.at number) result)
+    (λ bytes spelling known.
+    let reads : frame_body id bytes entry.at number ≡ Ok (block_of kind p.block) =
+    ap (λ (e : Entry). frame_body id bytes e.at number) entry'
+    ∙ ap (λ (n : ℕ). frame_body id bytes (end_of kind p.before) n) (sym p.many)
+    ∙ reads_block kind lawful id bytes p.before p.block p.later (subst (λ bs. AreBlocks kind bs) p.all holds.are)
+    (spelling ∙ ap (λ bs. numbered_frames (bodies_of kind bs)) p.all) in
+    subst (λ (a : Result (List ℕ) Fault). Answers a result) reads (known (holds.len ∙ ap length (sym spelling))))
+    some holds.bytes known in
+    (p, entry', answer)
+
+-- ---- the first numbers rise
+
+at_least : (least at : ℕ) (entries : List Entry) (end : ℕ) → IsIndexFrom least at entries end → (j : ℕ) (d : Entry) → j < length entries → least ≤ (slice_index_or entries j d).first
+at_least least at [] end is j d within = absurd (omega (arith, within))
+at_least least at (e ∷ entries) end is zero d within = is.0
+at_least least at (e ∷ entries) end is (suc j) d within =
+    omega (arith, is.0, at_least (e.first + 1) (at + e.len) entries end is.5 j d (omega (arith, within)))
+
+pub first_numbers_rise : (least at : ℕ) (entries : List Entry) (end : ℕ) → IsIndexFrom least at entries end → IsNonDecreasingBy (λ (e : Entry). e.first) entries
+first_numbers_rise least at [] end is i j d order within = absurd (omega (arith, within))
+first_numbers_rise least at (e ∷ entries) end is zero zero d order within = omega arith
+first_numbers_rise least at (e ∷ entries) end is zero (suc j) d order within =
+    omega (arith, at_least (e.first + 1) (at + e.len) entries end is.5 j d (omega (arith, within)))
+first_numbers_rise least at (e ∷ entries) end is (suc i) zero d order within = absurd (omega (arith, order))
+first_numbers_rise least at (e ∷ entries) end is (suc i) (suc j) d order within =
+    first_numbers_rise (e.first + 1) (at + e.len) entries end is.5 i j d (omega (arith, order)) (omega (arith, within))
+
+pub index_rises : {T : Type 0} (kind : Kind T) → IsLawful kind → (blocks : List (List T)) → AreBlocks kind blocks → IsNonDecreasingBy (λ (e : Entry). e.first) (index_from kind 0 blocks)
+index_rises kind lawful blocks are = first_numbers_rise 0 0 (index_from kind 0 blocks) (end_of kind blocks) (index_from_is_index kind lawful blocks are)
+
+-- ---- the records before a block and behind it
+
+rise_tail : {T : Type 0} (kind : Kind T) (x : T) (xs : List T) → RiseAfter kind x xs → AreRising kind xs
+rise_tail kind x [] rise = tt
+rise_tail kind x (y ∷ xs) rise = rise.1
+
+rise_behind : {T : Type 0} (kind : Kind T) (xs ys : List T) → AreRising kind (xs ++ ys) → AreRising kind ys
+rise_behind kind [] ys rise = rise
+rise_behind kind (x ∷ xs) ys rise = rise_behind kind xs ys (rise_tail kind x (xs ++ ys) rise)
+
+later_is_above : {T : Type 0} (kind : Kind T) (x : T) (xs : List T) (y : T) (ys : List T) → RiseAfter kind x (xs ++ y ∷ ys) → kind.seq x < kind.seq y
+later_is_above kind x [] y ys rise = rise.0
+later_is_above kind x (z ∷ xs) y ys rise = omega (arith, rise.0, later_is_above kind z xs y ys rise.1)
+
+before_is_below : {T : Type 0} (kind : Kind T) (number : ℕ) (xs : List T) (y : T) (ys : List T) → AreRising kind (xs ++ y ∷ ys) → kind.seq y ≤ number
+    → AllByRecursion (λ x. kind.seq x < number) xs
+before_is_below kind number [] y ys rise under = tt
+before_is_below kind number (x ∷ xs) y ys rise under =
+    (omega (arith, later_is_above kind x xs y ys rise, under), before_is_below kind number xs y ys (rise_tail kind x (xs ++ y ∷ ys) rise) under)
+
+all_above : {T : Type 0} (kind : Kind T) (number : ℕ) (x : T) (xs : List T) → number ≤ kind.seq x → RiseAfter kind x xs → AllByRecursion (λ y. number < kind.seq y) xs
+all_above kind number x [] under rise = tt
+all_above kind number x (y ∷ xs) under rise = (omega (arith, under, rise.0), all_above kind number y xs (omega (arith, under, rise.0)) rise.1)
+
+all_within : {T : Type 0} (kind : Kind T) (x : T) (xs : List T) → RiseAfter kind x xs
+    → (kind.seq x ≤ last_number_after kind (kind.seq x) xs) × AllByRecursion (λ y. kind.seq y ≤ last_number_after kind (kind.seq x) xs) xs
+all_within kind x [] rise = (omega arith, tt)
+all_within kind x (y ∷ xs) rise =
+    let rest = all_within kind y xs rise.1 in
+    (omega (arith, rise.0, rest.0), (rest.0, rest.1))
+
+-- ---- records that are not of a number
+
+passed : {T : Type 0} (kind : Kind T) (number : ℕ) (xs ys : List T) → AllByRecursion (λ x. kind.seq x < number) xs → record_of kind number (xs ++ ys) ≡ record_of kind number ys
+passed kind number [] ys below = refl
+passed kind number (x ∷ xs) ys below =
+    record_of-later kind number x (xs ++ ys) (λ e. absurd (omega (arith, e, below.0))) ∙ passed kind number xs ys below.1
+
+none_above : {T : Type 0} (kind : Kind T) (number : ℕ) (xs : List T) → AllByRecursion (λ x. number < kind.seq x) xs → record_of kind number xs ≡ None
+none_above kind number [] above = refl
+none_above kind number (x ∷ xs) above = record_of-later kind number x xs (λ e. absurd (omega (arith, e, above.0))) ∙ none_above kind number xs above.1
+
+none_behind : {T : Type 0} (kind : Kind T) (number : ℕ) (xs ys : List T) → AllByRecursion (λ y. number < kind.seq y) ys → record_of kind number (xs ++ ys) ≡ record_of kind number xs
+none_behind kind number [] ys above = none_above kind number ys above
+none_behind kind number (x ∷ xs) ys above = grind (arith, none_behind kind number xs ys above)
+
+pub none_below_first : {T : Type 0} (kind : Kind T) (number : ℕ) (xs : List T) → AreRising kind xs → number < first_number kind xs → record_of kind number xs ≡ None
+none_below_first kind number [] rise below = refl
+none_below_first kind number (x ∷ xs) rise below = none_above kind number (x ∷ xs) (below, all_above kind number x xs (omega (arith, below)) rise)
+
+none_after : {T : Type 0} (kind : Kind T) (number last : ℕ) (xs : List T) → AllByRecursion (λ x. kind.seq x ≤ last) xs → last < number → record_of kind number xs ≡ None
+none_after kind number last [] within above = refl
+none_after kind number last (x ∷ xs) within above =
+    record_of-later kind number x xs (λ e. absurd (omega (arith, e, within.0, above))) ∙ none_after kind number last xs within.1 above
+
+pub none_above_last : {T : Type 0} (kind : Kind T) (number : ℕ) (xs : List T) → AreRising kind xs → last_number kind xs < number → record_of kind number xs ≡ None
+none_above_last kind number [] rise above = refl
+none_above_last kind number (x ∷ xs) rise above = none_after kind number (last_number kind (x ∷ xs)) (x ∷ xs) (all_within kind x xs rise) above
+
+none_over : {T : Type 0} (kind : Kind T) (after last : ℕ) (xs : List T) → AllByRecursion (λ x. kind.seq x ≤ last) xs → last ≤ after → filter (λ it. nat_lt after (kind.seq it)) xs ≡ []
+none_over kind after last [] within under = refl
+none_over kind after last (x ∷ xs) within under = filter-pass kind after x xs (omega (arith, within.0, under)) ∙ none_over kind after last xs within.1 under
+
+pub none_over_last : {T : Type 0} (kind : Kind T) (after : ℕ) (xs : List T) → AreRising kind xs → last_number kind xs ≤ after → filter (λ it. nat_lt after (kind.seq it)) xs ≡ []
+none_over_last kind after [] rise under = refl
+none_over_last kind after (x ∷ xs) rise under = none_over kind after (last_number kind (x ∷ xs)) (x ∷ xs) (all_within kind x xs rise) under
+
+-- blocks of which the first begins above a number have no record of it
+blocks_above : {T : Type 0} (kind : Kind T) (number : ℕ) (blocks : List (List T)) → AreFilled (block_of kind) blocks → AreRising kind (items_of blocks)
+    → ((block : List T) (later : List (List T)) → blocks ≡ block ∷ later → number < first_number kind block) → AllByRecursion (λ x. number < kind.seq x) (items_of blocks)
+blocks_above kind number [] filled rise above = tt
+blocks_above kind number ([] ∷ blocks) filled rise above = absurd (filled.0.some refl)
+blocks_above kind number ((x ∷ b) ∷ blocks) filled rise above =
+    let over = above (x ∷ b) blocks refl in
+    (over, all_above kind number x (b ++ items_of blocks) (omega (arith, over)) rise)
+
+-- ---- where the records above a number begin, and where one of a number stands
+
+first_of : {T : Type 0} (kind : Kind T) (blocks : List (List T)) (before : List (List T)) (block : List T) (later : List (List T)) (d : Entry) → blocks ≡ before ++ block ∷ later
+    → (slice_index_or (index_from kind 0 blocks) (length before) d).first ≡ first_number kind block
+first_of kind blocks before block later d is =
+    ap (λ bs. (slice_index_or (index_from kind 0 bs) (length before) d).first) is ∙ ap (λ (e : Entry). e.first) (entry_is kind 0 before block later d)
+
+none_passes : {T : Type 0} (kind : Kind T) (after : ℕ) (xs ys : List T) → AllByRecursion (λ x. kind.seq x < after + 1) xs
+    → filter (λ it. nat_lt after (kind.seq it)) (xs ++ ys) ≡ filter (λ it. nat_lt after (kind.seq it)) ys
+none_passes kind after [] ys below = refl
+none_passes kind after (x ∷ xs) ys below = filter-pass kind after x (xs ++ ys) (omega (arith, below.0)) ∙ none_passes kind after xs ys below.1
+
+begun : {T : Type 0} (kind : Kind T) (after : ℕ) (before : List (List T)) (block : List T) (later : List (List T)) → Fits (block_of kind) block
+    → AreRising kind (items_of (before ++ block ∷ later)) → first_number kind block ≤ after
+    → filter (λ it. nat_lt after (kind.seq it)) (items_of (block ∷ later)) ≡ filter (λ it. nat_lt after (kind.seq it)) (items_of (before ++ block ∷ later))
+begun kind after before [] later fits rise under = absurd (fits.some refl)
+begun {T} kind after before (x ∷ b) later fits rise under =
+    let rise' = subst (λ xs. AreRising kind xs) (items_of-parts before (x ∷ b) later) rise in
+    sym (ap (λ (xs : List T). filter (λ it. nat_lt after (kind.seq it)) xs) (items_of-parts before (x ∷ b) later)
+    ∙ none_passes kind after (items_of before) ((x ∷ b) ++ items_of later) (before_is_below kind (after + 1) (items_of before) x (b ++ items_of later) rise' (omega (arith, under))))
+
+drop_parts : {T : Type 0} (blocks : List (List T)) (number : ℕ) (p : Parts blocks number) → drop number blocks ≡ p.block ∷ p.later
+drop_parts blocks number p = ap (drop number) p.all ∙ drop_at p.before (p.block ∷ p.later) number p.many
+
+-- the records above a number begin in the last block that begins at most at it
+pub scan_begins : {T : Type 0} (kind : Kind T) (blocks : List (List T)) → AreBlocks kind blocks → (after start behind : ℕ) (d : Entry) → start ≡ behind - 1 → behind ≤ length (index_from kind 0 blocks)
+    → IsPartitionPoint (λ (e : Entry). e.first ≤ after) (λ (e : Entry). after < e.first) (index_from kind 0 blocks) behind
+    → filter (λ it. nat_lt after (kind.seq it)) (items_of (drop start blocks)) ≡ filter (λ it. nat_lt after (kind.seq it)) (items_of blocks)
+scan_begins {T} kind blocks are after start zero d is bound point =
+    let none : start ≡ 0 = omega (arith, is) in ap (λ n. filter (λ it. nat_lt after (kind.seq it)) (items_of (drop n blocks))) none
+scan_begins {T} kind blocks are after start (suc k) d is bound point =
+    let p = parts blocks start (omega (arith, is, bound, length-index_from kind 0 blocks)) in
+    let under : first_number kind p.block ≤ after =
+    omega (arith, point.0 (length p.before) d (omega arith) (omega (arith, p.many, is)), first_of kind blocks p.before p.block p.later d p.all) in
+    ap (λ (bs : List (List T)). filter (λ it. nat_lt after (kind.seq it)) (items_of bs)) (drop_parts blocks start p)
+    ∙ begun kind after p.before p.block p.later (filled-parts kind p.before p.block p.later (subst (λ bs. AreFilled (block_of kind) bs) p.all are.filled)).0
+    (subst (λ bs. AreRising kind (items_of bs)) p.all are.rise) under
+    ∙ ap (λ (bs : List (List T)). filter (λ it. nat_lt after (kind.seq it)) (items_of bs)) (sym p.all)
+
+later_first : {T : Type 0} (kind : Kind T) (blocks : List (List T)) (number : ℕ) (behind : ℕ) (d : Entry) (before : List (List T)) (later : List (List T))
+    → IsPartitionPoint (λ (e : Entry). e.first ≤ number) (λ (e : Entry). number < e.first) (index_from kind 0 blocks) behind
+    → blocks ≡ before ++ later → length before ≡ behind → (block : List T) (more : List (List T)) → later ≡ block ∷ more → number < first_number kind block
+later_first kind blocks number behind d before later point all many block more is =
+    let all' : blocks ≡ before ++ block ∷ more = all ∙ ap (λ bs. before ++ bs) is in
+    let within : length before < length (index_from kind 0 blocks) = omega (arith, length-index_from kind 0 blocks, ap length all', length-append before (block ∷ more)) in
+    omega (arith, point.1 (length before) d (omega (arith, many)) within, first_of kind blocks before block more d all')
+
+-- where no block begins at most at a number, no record has it
+pub none_begins : {T : Type 0} (kind : Kind T) (blocks : List (List T)) → AreBlocks kind blocks → (number : ℕ) (d : Entry)
+    → IsPartitionPoint (λ (e : Entry). e.first ≤ number) (λ (e : Entry). number < e.first) (index_from kind 0 blocks) 0
+    → record_of kind number (items_of blocks) ≡ None
+none_begins kind blocks are number d point =
+    none_above kind number (items_of blocks) (blocks_above kind number blocks are.filled are.rise (later_first kind blocks number 0 d [] blocks point refl refl))
+
+found_here : {T : Type 0} (kind : Kind T) (number : ℕ) (before : List (List T)) (block : List T) (later : List (List T)) → Fits (block_of kind) block → AreFilled (block_of kind) later
+    → AreRising kind (items_of (before ++ block ∷ later)) → first_number kind block ≤ number
+    → ((b : List T) (more : List (List T)) → later ≡ b ∷ more → number < first_number kind b)
+    → record_of kind number (items_of (before ++ block ∷ later)) ≡ record_of kind number block
+found_here kind number before [] later fits filled rise under above = absurd (fits.some refl)
+found_here kind number before (x ∷ b) later fits filled rise under above =
+    let rise' = subst (λ xs. AreRising kind xs) (items_of-parts before (x ∷ b) later) rise in
+    let behind = rise_behind kind (x ∷ b) (items_of later) (rise_behind kind (items_of before) ((x ∷ b) ++ items_of later) rise') in
+    ap (record_of kind number) (items_of-parts before (x ∷ b) later)
+    ∙ passed kind number (items_of before) ((x ∷ b) ++ items_of later) (before_is_below kind number (items_of before) x (b ++ items_of later) rise' under)
+    ∙ none_behind kind number (x ∷ b) (items_of later) (blocks_above kind number later filled behind above)
+
+-- a record of a number stands in the last block that begins at most at it
+pub found_in : {T : Type 0} (kind : Kind T) (blocks : List (List T)) → AreBlocks kind blocks → (number behind : ℕ) (d : Entry) (before : List (List T)) (block : List T) (later : List (List T))
+    → IsPartitionPoint (λ (e : Entry). e.first ≤ number) (λ (e : Entry). number < e.first) (index_from kind 0 blocks) behind
+    → blocks ≡ before ++ block ∷ later → length before + 1 ≡ behind → record_of kind number (items_of blocks) ≡ record_of kind number block
+found_in {T} kind blocks are number behind d before block later point all many =
+    let filled = filled-parts kind before block later (subst (λ bs. AreFilled (block_of kind) bs) all are.filled) in
+    let under : first_number kind block ≤ number =
+    omega (arith, point.0 (length before) d (omega arith) (omega (arith, many)), first_of kind blocks before block later d all) in
+    let all' : blocks ≡ (before ++ block ∷ []) ++ later = all ∙ sym (append_assoc before (block ∷ []) later) in
+    let many' : length (before ++ block ∷ []) ≡ behind = omega (arith, many, length-append before (block ∷ [])) in
+    ap (λ (bs : List (List T)). record_of kind number (items_of bs)) all
+    ∙ found_here kind number before block later filled.0 filled.1 (subst (λ bs. AreRising kind (items_of bs)) all are.rise) under
+    (later_first kind blocks number behind d (before ++ block ∷ []) later point all' many')
+
+-- ---- answers
+
+-- a fault from outside is a right answer, whatever the records are
+pub outside_answer : {V : Type 0} (r : Result V Fault) (fault : Fault) (P : V → Type 0) → r ≡ Err fault → IsOutside fault → MatchResult r P (λ f. IsOutside f)
+outside_answer {V} r fault P is outside = subst (λ (x : Result V Fault). MatchResult x P (λ f. IsOutside f)) (sym is) outside
+
+pub fault_answer : {V : Type 0} (r : Result V Fault) (fault : Fault) (P : Fault → Type 0) → r ≡ Err fault → P fault → IfErr r P
+fault_answer {V} r fault P is holds = subst (λ (x : Result V Fault). IfErr x P) (sym is) holds
+
+-- an answer that only want of memory keeps back
+pub memory_answer : {V : Type 0} (r : Result V Fault) (P Q : V → Type 0) → ((v : V) → P v → Q v) → MatchResult r P (λ f. f ≡ NoMemory) → MatchResult r Q (λ f. IsOutside f)
+memory_answer (Ok v) P Q step holds = step v holds
+memory_answer (Err f) P Q step holds = inl holds
+
+pub faults_are : {V : Type 0} (r : Result V Fault) (P Q : Fault → Type 0) → ((f : Fault) → P f → Q f) → IfErr r P → IfErr r Q
+faults_are (Ok v) P Q step holds = tt
+faults_are (Err f) P Q step holds = step f holds
+
+-- a body of a block that is outside its grammar
+pub block_fault : (id : FileId) (index : List Entry) (k : ℕ) (entry : Entry) → k < length index → slice_index_or index k entry ≡ entry → (fault : Fault)
+    → IsUnfit id entry.at fault ⊎ (fault ≡ NoMemory) → IsOutside fault ⊎ IsBlockFault id index fault
+block_fault id index k entry within is fault (inr memory) = inl (inl memory)
+block_fault id index k entry within is fault (inl (inl malformed)) = inr (k, entry, within, is, inr malformed)
+block_fault id index k entry within is fault (inl (inr great)) = inr (k, entry, within, is, inl (great.0, 2 ^ 62, great.2))
+
+pub point_of : {T : Type 0} (kind : Kind T) → IsLawful kind → (blocks : List (List T)) → AreBlocks kind blocks → (index : List Entry) (number behind : ℕ) → index ≡ index_from kind 0 blocks
+    → (IsNonDecreasingBy (λ (e : Entry). e.first) index → IsPartitionPoint (λ (e : Entry). e.first ≤ number) (λ (e : Entry). number < e.first) index behind)
+    → IsPartitionPoint (λ (e : Entry). e.first ≤ number) (λ (e : Entry). number < e.first) (index_from kind 0 blocks) behind
+point_of kind lawful blocks are index number behind is point =
+    subst (λ (es : List Entry). IsPartitionPoint (λ (e : Entry). e.first ≤ number) (λ (e : Entry). number < e.first) es behind) is
+    (point (subst (λ (es : List Entry). IsNonDecreasingBy (λ (e : Entry). e.first) es) (sym is) (index_rises kind lawful blocks are)))
+
+pub no_entry : Entry
+no_entry = record { first = 0; at = 0; len = 0 }
+
+-- ---- one block more
+
+pub scan_step : {T : Type 0} (kind : Kind T) (blocks : List (List T)) (after number : ℕ) (body : List ℕ) (old new : List T) → (b : IsBlock kind blocks number body)
+    → new ≡ old ++ filter (λ it. nat_lt after (kind.seq it)) b.block
+    → new ++ filter (λ it. nat_lt after (kind.seq it)) (items_of (drop (number + 1) blocks)) ≡ old ++ filter (λ it. nat_lt after (kind.seq it)) (items_of (drop number blocks))
+scan_step {T} kind blocks after number body old new b is =
+    let above : T → Bool = λ it. nat_lt after (kind.seq it) in
+    let here : drop number blocks ≡ b.block ∷ b.later = ap (drop number) b.all ∙ drop_at b.before (b.block ∷ b.later) number b.many in
+    let split : blocks ≡ (b.before ++ b.block ∷ []) ++ b.later = b.all ∙ sym (append_assoc b.before (b.block ∷ []) b.later) in
+    let long : length (b.before ++ b.block ∷ []) ≡ number + 1 = omega (arith, b.many, length-append b.before (b.block ∷ [])) in
+    let next : drop (number + 1) blocks ≡ b.later = ap (drop (number + 1)) split ∙ drop_at (b.before ++ b.block ∷ []) b.later (number + 1) long in
+    ap (λ (bs : List (List T)). new ++ filter above (items_of bs)) next
+    ∙ ap (λ xs. xs ++ filter above (items_of b.later)) is
+    ∙ append_assoc old (filter above b.block) (filter above (items_of b.later))
+    ∙ ap (λ xs. old ++ xs) (sym (filter-append above b.block (items_of b.later)))
+    ∙ ap (λ (bs : List (List T)). old ++ filter above (items_of bs)) (sym here)
+
+-- all blocks were scanned
+pub scan_ends : {T : Type 0} (kind : Kind T) (blocks : List (List T)) (after number : ℕ) (all found : List T) → length blocks ≤ number
+    → found ++ filter (λ it. nat_lt after (kind.seq it)) (items_of (drop number blocks)) ≡ filter (λ it. nat_lt after (kind.seq it)) all
+    → found ≡ filter (λ it. nat_lt after (kind.seq it)) all
+scan_ends {T} kind blocks after number all found past is =
+    sym (ap (λ (bs : List (List T)). found ++ filter (λ it. nat_lt after (kind.seq it)) (items_of bs)) (drop_all number blocks past) ∙ append-nil found) ∙ is

@@ -1,0 +1,10 @@
+pub mod Contents
+pub mod ContentsLaws
+pub mod FieldLaws
+pub mod File
+pub mod ItemLaws
+pub mod ItemRecord
+pub mod Reading
+pub mod Record
+pub mod Refusals
+pub mod Writing

@@ -1,0 +1,147 @@
+use super::*;
+use mg_disk::Files;
+use mg_memdisk::{MemFiles, MemSealed};
+use mg_model::{Doc, Fault, FileId, Item, Key};
+use std::alloc::Global;
+use std::test::Fail;
+
+const ID: FileId = FileId {
+    part: 0,
+    kind: 2,
+    number: 5,
+};
+
+/// A record of 1,015 bytes: four of them fill a block.
+fn record(alloc: Global, seq: u64) -> Result<Item, Fault> {
+    let document = vec![in alloc; b'd'; 1_000]?;
+    let (Some(key), Some(doc)) = (Key::new(alloc, b"k")?, Doc::new(alloc, &document)?) else {
+        return Err(Fault::BadWords);
+    };
+    Ok(Item {
+        seq,
+        key,
+        doc: Some(doc),
+    })
+}
+
+/// The file of the records 10, 20 and so on to 100, in blocks that begin at 10, 50 and 90.
+fn ten(alloc: Global, port: &mut MemFiles) -> Result<RecordFile<MemSealed>, Fault> {
+    let mut writer = start_records::<MemFiles, Item>(alloc, port)?;
+    for tenth in 1..11 {
+        let it = record(alloc, 10 * tenth)?;
+        parts_fit(&it);
+        if writer.is_full() || it.seq >= 1 << 62 || !writer.may_follow(it.seq) {
+            return Err(Fault::BadWords);
+        }
+        push_record(alloc, port, &mut writer, &it)?;
+    }
+    if writer.is_empty() {
+        return Err(Fault::BadWords);
+    }
+    finish_records::<MemFiles, Item>(alloc, port, writer, ID)
+}
+
+/// The same file, opened again.
+fn opened(alloc: Global, port: &mut MemFiles) -> Result<RecordFile<MemSealed>, Fault> {
+    let written = ten(alloc, port)?;
+    let sealed = written.sealed();
+    let Ok(again) = port.share(alloc, &sealed.file) else {
+        return Err(Fault::ReadFault);
+    };
+    if sealed.len >= 1 << 62 {
+        return Err(Fault::BadWords);
+    }
+    load_records::<MemFiles, Item>(alloc, port, ID, again, sealed.len)
+}
+
+fn numbers_above(
+    alloc: Global,
+    port: &mut MemFiles,
+    file: &RecordFile<MemSealed>,
+    after: u64,
+) -> Result<Vec<u64>, Fault> {
+    let mut numbers = Vec::new(alloc);
+    for it in &scan_records::<MemFiles, Item>(alloc, port, file, after)? {
+        numbers.push(it.seq)?;
+    }
+    Ok(numbers)
+}
+
+#[test]
+fn a_file_says_what_it_has(rt: HostRuntime) -> Result<(), Fail> {
+    let alloc = rt.alloc();
+    let mut port = MemFiles::new(Vec::new(alloc));
+    let file = opened(alloc, &mut port)?;
+    assert_eq!(rt; file.count(), 10);
+    assert_eq!(rt; file.bytes(), 10_010);
+    assert_eq!(rt; file.first(), 10);
+    assert_eq!(rt; file.last(), 100);
+    // three blocks, an index of three items and the foot
+    assert_eq!(rt; file.sealed().len, 10_150 + 60 + 80 + 65);
+    Ok(())
+}
+
+#[test]
+fn a_record_is_found_by_its_number(rt: HostRuntime) -> Result<(), Fail> {
+    let alloc = rt.alloc();
+    let mut port = MemFiles::new(Vec::new(alloc));
+    let file = opened(alloc, &mut port)?;
+    for (number, there) in [
+        (0, false),
+        (9, false),
+        (10, true),
+        (40, true),
+        (45, false),
+        (50, true),
+        (89, false),
+        (90, true),
+        (100, true),
+        (101, false),
+        (u64::MAX, false),
+    ] {
+        let found = get_record::<MemFiles, Item>(alloc, &mut port, &file, number)?;
+        assert_eq!(rt; found.map(|it| it.seq), there.then_some(number));
+    }
+    Ok(())
+}
+
+#[test]
+fn records_are_listed_from_a_number_on(rt: HostRuntime) -> Result<(), Fail> {
+    let alloc = rt.alloc();
+    let mut port = MemFiles::new(Vec::new(alloc));
+    let file = opened(alloc, &mut port)?;
+    for (after, first) in [(0, 10), (9, 10), (10, 20), (49, 50), (50, 60), (95, 100)] {
+        let numbers = numbers_above(alloc, &mut port, &file, after)?;
+        assert_eq!(rt; numbers.first().copied(), Some(first));
+        assert_eq!(rt; numbers.len() as u64, 11 - first / 10);
+        assert_eq!(rt; numbers.last().copied(), Some(100));
+    }
+    assert!(rt; numbers_above(alloc, &mut port, &file, 100)?.is_empty());
+    assert!(rt; numbers_above(alloc, &mut port, &file, u64::MAX)?.is_empty());
+    Ok(())
+}
+
+#[test]
+fn no_more_blocks_are_read_than_are_wanted(rt: HostRuntime) -> Result<(), Fail> {
+    let alloc = rt.alloc();
+    let file = opened(alloc, &mut MemFiles::new(Vec::new(alloc)))?;
+    // the first call of this port fails, and no later one
+    let mut port = MemFiles::new(vec![in alloc; 1]?);
+    for number in [9, 101] {
+        let none = get_record::<MemFiles, Item>(alloc, &mut port, &file, number)?;
+        assert!(rt; none.is_none());
+    }
+    let failed = get_record::<MemFiles, Item>(alloc, &mut port, &file, 20);
+    assert!(rt; matches!(failed, Err(Fault::ReadFault)));
+    let found = get_record::<MemFiles, Item>(alloc, &mut port, &file, 20)?;
+    assert!(rt; found.is_some());
+    for (after, blocks) in [(0, 3), (49, 3), (50, 2), (89, 2), (90, 1), (100, 0)] {
+        for failing in 1..5 {
+            let mut port = MemFiles::new(vec![in alloc; failing]?);
+            let listed = numbers_above(alloc, &mut port, &file, after);
+            let read = matches!(listed, Err(Fault::ReadFault));
+            assert_eq!(rt; read, failing <= blocks, "block {failing} above {after}");
+        }
+    }
+    Ok(())
+}
