@@ -1,0 +1,3 @@
+mod ListingLaws
+mod Measuring
+mod Merges
