@@ -5,13 +5,25 @@
 mod block;
 mod bloom;
 mod frame;
+mod port;
+mod segment;
+mod table;
+mod turn;
 
 use anyhow::{Context, Result, bail};
 use std::alloc::{AllocError, Global};
 use std::env;
+use std::sync::Wait;
+use std::thread::Threads;
 use std::time::Instant;
 
-fn run(alloc: Global, name: &str, count: u64, size: usize) -> Result<u64> {
+fn run<R: Threads + Wait + Sync>(
+    rt: &R,
+    alloc: Global,
+    name: &str,
+    count: u64,
+    size: usize,
+) -> Result<u64> {
     let checksum = match name {
         "put_frames" => frame::put_frames(alloc, count, size)?,
         "take_frames" => frame::take_frames(alloc, count, size)?,
@@ -23,6 +35,14 @@ fn run(alloc: Global, name: &str, count: u64, size: usize) -> Result<u64> {
         "find_in_blocks" => block::find_in_blocks(alloc, count, size)?,
         "list_blocks" => block::list_blocks(alloc, count, size)?,
         "scan_blocks" => block::scan_blocks(alloc, count, size)?,
+        "write_table" => table::write_table(alloc, count, size)?,
+        "find_in_table" => table::find_in_table(alloc, count, size)?,
+        "find_absent_in_table" => table::find_absent_in_table(alloc, count, size)?,
+        "write_segment" => segment::write_segment(alloc, count, size)?,
+        "get_from_segment" => segment::get_from_segment(alloc, count, size)?,
+        "turn_by_one" => turn::turn_by_one(rt, alloc, count)?,
+        "turn_by_two" => turn::turn_by_two(rt, alloc, count)?,
+        "turn_by_four" => turn::turn_by_four(rt, alloc, count)?,
         _ => bail!("no workload of that name"),
     };
     Ok(checksum)
@@ -42,8 +62,16 @@ fn main(rt: HostRuntime) -> Result<()> {
             "find_in_blocks",
             "list_blocks",
             "scan_blocks",
+            "write_table",
+            "find_in_table",
+            "find_absent_in_table",
+            "write_segment",
+            "get_from_segment",
+            "turn_by_one",
+            "turn_by_two",
+            "turn_by_four",
         ] {
-            println!(rt; "{name} {}", run(rt.alloc(), name, 10, 20)?)?;
+            println!(rt; "{name} {}", run(&rt, rt.alloc(), name, 10, 20)?)?;
         }
         return Ok(());
     };
@@ -58,7 +86,7 @@ fn main(rt: HostRuntime) -> Result<()> {
         .parse::<usize>()
         .context("the size")?;
     let start = Instant::now(&rt)?;
-    let checksum = run(rt.alloc(), name.as_str(), count, size)?;
+    let checksum = run(&rt, rt.alloc(), name.as_str(), count, size)?;
     let taken = start.elapsed(&rt)?;
     println!(rt; "{checksum} in {} ns", taken.as_nanos())?;
     Ok(())

@@ -1,0 +1,109 @@
+//! Workloads over a table in memory. Its keys are the even numbers in decimal digits, of `size` bytes, at most 250.
+
+use crate::port::CountingFiles;
+use anyhow::{Context, Result, bail};
+use mg_memdisk::{MemDraft, MemFiles, MemSealed};
+use mg_model::{FileId, Key};
+use mg_table::{Entry, Table, TableWriter, find, finish_table, push_entry, start_table};
+use std::alloc::Global;
+
+const ID: FileId = FileId {
+    part: 0,
+    kind: 1,
+    number: 1,
+};
+
+/// The most entries of a table in which keys are looked for.
+const MOST_ENTRIES: u64 = 100_000;
+
+const MOST_KEY_BYTES: usize = 250;
+
+/// What each entry says of the bytes of its key and document.
+const ENTRY_BYTES: u32 = 1_044;
+
+type Port = CountingFiles<MemFiles>;
+
+/// Writes a table of `count` entries, and answers the bytes of the file.
+pub fn write_table(alloc: Global, count: u64, size: usize) -> Result<u64> {
+    let mut port = CountingFiles::new(MemFiles::new(Vec::new(alloc)));
+    filled(alloc, &mut port, count, size)?;
+    Ok(port.written)
+}
+
+/// Looks `count` times for a key of a table of `count` entries, at most 100,000, and answers how many blocks were read.
+pub fn find_in_table(alloc: Global, count: u64, size: usize) -> Result<u64> {
+    let mut port = CountingFiles::new(MemFiles::new(Vec::new(alloc)));
+    let entries = count.min(MOST_ENTRIES);
+    let table = filled(alloc, &mut port, entries, size)?;
+    let before = port.reads;
+    for n in 0..count {
+        let number = n.wrapping_mul(7_919) % entries;
+        let key = key_of(alloc, 2 * number, size)?;
+        if find(alloc, &mut port, &table, &key)?.is_none() {
+            bail!("a key is not found");
+        }
+    }
+    Ok(port.reads.saturating_sub(before))
+}
+
+/// Looks `count` times for a key between two of a table of `count` entries, at most 100,000, and answers how many blocks were
+/// read.
+pub fn find_absent_in_table(alloc: Global, count: u64, size: usize) -> Result<u64> {
+    let mut port = CountingFiles::new(MemFiles::new(Vec::new(alloc)));
+    let entries = count.min(MOST_ENTRIES);
+    let table = filled(alloc, &mut port, entries, size)?;
+    let before = port.reads;
+    for n in 0..count {
+        let number = n.wrapping_mul(7_919) % entries;
+        let key = key_of(alloc, 2 * number + 1, size)?;
+        if find(alloc, &mut port, &table, &key)?.is_some() {
+            bail!("an absent key is found");
+        }
+    }
+    Ok(port.reads.saturating_sub(before))
+}
+
+/// A table of so many entries.
+fn filled(alloc: Global, port: &mut Port, entries: u64, size: usize) -> Result<Table<MemSealed>> {
+    if entries >= 1 << 32 {
+        bail!("too many entries");
+    }
+    let mut writer = start_table(alloc, port, ID, 0, entries)?;
+    for number in 0..entries {
+        let entry = Entry {
+            key: key_of(alloc, 2 * number, size)?,
+            seq: number + 1,
+            size: ENTRY_BYTES,
+            gone: false,
+        };
+        push(alloc, port, &mut writer, &entry)?;
+    }
+    if writer.is_empty() {
+        bail!("no entry");
+    }
+    Ok(finish_table(alloc, port, writer)?)
+}
+
+fn push(
+    alloc: Global,
+    port: &mut Port,
+    writer: &mut TableWriter<MemDraft>,
+    entry: &Entry,
+) -> Result<()> {
+    let fits = entry.seq < 1 << 62 && entry.size >= 1 && entry.size <= 1_048_826;
+    if writer.is_full() || !writer.is_above(&entry.key) || !fits {
+        bail!("the entry may not follow");
+    }
+    Ok(push_entry(alloc, port, writer, entry)?)
+}
+
+/// The last digits of a number, as many as `size`, at most 250.
+fn key_of(alloc: Global, number: u64, size: usize) -> Result<Key> {
+    let mut digits = [b'0'; MOST_KEY_BYTES];
+    let mut left = number;
+    for digit in digits[..size.min(MOST_KEY_BYTES)].iter_mut().rev() {
+        *digit = b'0' + (left % 10) as u8;
+        left /= 10;
+    }
+    Key::new(alloc, &digits[..size.min(MOST_KEY_BYTES)])?.context("a key has a byte")
+}
