@@ -1,3 +1,4 @@
 pub mod BigEndianLaws
 pub mod FrameLaws
 pub mod FramesLaws
+pub mod SplitLaws

@@ -5,6 +5,7 @@
 mod fields;
 mod frame;
 pub mod laws;
+mod split;
 #[cfg(test)]
 mod tests;
 
@@ -13,3 +14,4 @@ pub use fields::{
     put_u32, put_u64,
 };
 pub use frame::{FRAME_OVERHEAD, Taken, put_frame, take_frame};
+pub use split::{split_short, split_u8, split_u32, split_u64};
