@@ -1,5 +1,7 @@
+pub mod AnswerLaws
 pub mod FillingLaws
 pub mod FootLaws
+pub mod NumberLaws
 pub mod ReadingLaws
 pub mod WritingLaws
 pub mod WrittenLaws

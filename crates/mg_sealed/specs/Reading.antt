@@ -34,10 +34,6 @@ IsDamageAt id at fault = (kept : ℕ) × (found : ℕ) × (fault ≡ Damaged id 
 unfoldable pub frame_body : FileId → List ℕ → ℕ → ℕ → Result (List ℕ) Fault
 frame_body id bytes at number = body_or_damage id at (length bytes) bytes (taken bytes at number)
 
--- a number that was read from a file at a place: it is below 2 ^ 62, or is damaged there
-abbrev pub checked_number : FileId → ℕ → ℕ → Result ℕ Fault
-checked_number id at number = if nat_lt number (2 ^ 62) then Ok number else Err (Damaged id at number (2 ^ 62))
-
 -- how many bytes the frame needs that these bytes begin: so many as a frame's front where they have no whole front
 unfoldable pub needed : List ℕ → ℕ
 needed bytes = if nat_lt (length bytes) 12 then 12 else said_length bytes + 20

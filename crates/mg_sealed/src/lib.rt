@@ -5,14 +5,18 @@
 //! file is read and written through this crate.
 #![tactic(auto)]
 
+mod blocks;
 mod errors;
 pub mod laws;
+mod numbers;
 mod reading;
 #[cfg(test)]
 mod tests;
 mod writing;
 
-pub use reading::{Frame, SealedFile, checked_number, open_sealed, read_foot, read_frame};
+pub use blocks::read_block;
+pub use numbers::{NUMBER_LIMIT, check_numbers};
+pub use reading::{Frame, SealedFile, open_sealed, read_foot, read_frame};
 pub use writing::{
     FrameWriter, Placed, append_frame, seal_frames, start_frames, written_frame_is_read,
 };

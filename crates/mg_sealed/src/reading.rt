@@ -5,7 +5,7 @@ ghost use Rattle.mg_faults.specs.Causes.{HasCause};
 ghost use Rattle.mg_frame.specs.Frame.{said_number, taken};
 ghost use Rattle.mg_sealed.specs.Answers.{Answers, IsOutside};
 ghost use Rattle.mg_sealed.specs.Foot.{foot_body, judged_foot, said_blocks};
-ghost use Rattle.mg_sealed.specs.Reading.{body_or_damage, checked_number, frame_body, needed, opened, IsDamageAt, IsEnough};
+ghost use Rattle.mg_sealed.specs.Reading.{body_or_damage, frame_body, needed, opened, IsDamageAt, IsEnough};
 
 use crate::errors::read_fault;
 use mg_disk::Files;
@@ -16,9 +16,6 @@ use std::marker::Model;
 
 /// The bytes of a frame before its body.
 const HEADER: usize = 12;
-
-/// Numbers that a file keeps are below this one.
-const NUMBER_LIMIT: u64 = 1 << 62;
 
 /// A sealed file with the length that is kept of it.
 #[derive(Drop)]
@@ -143,17 +140,6 @@ pub fn read_foot<F: Files>(
     let stored = stored_number(&bytes);
     let foot = judge(file.id, at, file.len, stored, bytes)?;
     judge_foot(file.id, at, size, others, stored, foot)
-}
-
-/// A number that was read from a file at a place, which is damaged there where it is 2^62 or more.
-pub fn checked_number(file: FileId, at: u64, number: u64) -> Result<u64, Fault>
-    ensures { result ≡ checked_number file at number }
-{
-    if number < NUMBER_LIMIT {
-        Ok(number)
-    } else {
-        Err(damaged(file, at, number, NUMBER_LIMIT))
-    }
 }
 
 /// Reads as much from a place on as the frame needs that begins there, as far as the file has it.

@@ -116,12 +116,17 @@ fn lengths_are_judged_first(rt: HostRuntime) -> Result<(), Fail> {
         let opened = open_sealed(alloc, &mut port, ID, file, len, least);
         assert_eq!(rt; opened.err(), fault);
     }
-    assert_eq!(rt; checked_number(ID, 5, (1 << 62) - 1), Ok((1 << 62) - 1));
+    Ok(())
+}
+
+#[test]
+fn the_first_number_that_is_too_great_is_damaged(rt: HostRuntime) {
+    let most = (1 << 62) - 1;
+    assert_eq!(rt; check_numbers(ID, 5, &[0, most, 7]), Ok(()));
     assert_eq!(rt;
-        checked_number(ID, 5, 1 << 62),
+        check_numbers(ID, 5, &[most, 1 << 62, 1 << 63]),
         Err(damaged(5, 1 << 62, 1 << 62))
     );
-    Ok(())
 }
 
 /// A foot with number 1 behind one block. Its digest was computed with another program.
