@@ -3,6 +3,7 @@ pub mod Blocks
 pub mod Filling
 pub mod Foot
 pub mod Laws
+pub mod Lists
 pub mod Numbers
 pub mod Reading
 pub mod Writing

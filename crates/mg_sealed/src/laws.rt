@@ -2,6 +2,7 @@
 
 ghost use Rattle.mg_sealed.specs.Filling.{OneFilling};
 ghost use Rattle.mg_sealed.specs.Foot.{WrittenFootIsRead};
+ghost use Rattle.mg_sealed.specs.Lists.{OneListOfFrames};
 
 /// Items are filled into blocks in one way.
 pub const fn one_filling<T>()
@@ -11,4 +12,9 @@ pub const fn one_filling<T>()
 /// The foot of a file that was written here is read, and is refused nowhere.
 pub const fn written_foot_is_read()
     ensures { WrittenFootIsRead }
+{}
+
+/// Bytes are the numbered frames of one list of bodies.
+pub const fn one_list_of_frames()
+    ensures { OneListOfFrames }
 {}
