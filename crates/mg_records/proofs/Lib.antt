@@ -6,6 +6,7 @@ pub mod FileLaws
 pub mod FootCounts
 mod ItemReading
 pub mod KnownLaws
+pub mod ListLaws
 pub mod LoadingLaws
 pub mod LookupLaws
 pub mod RefusalLaws

@@ -4,6 +4,7 @@ pub mod FieldLaws
 pub mod File
 pub mod ItemLaws
 pub mod ItemRecord
+pub mod Lists
 pub mod Reading
 pub mod Record
 pub mod Refusals

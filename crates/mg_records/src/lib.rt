@@ -8,6 +8,7 @@ mod file;
 mod foot;
 mod index;
 mod item;
+pub mod laws;
 mod lookup;
 mod reading;
 mod record;

@@ -1,0 +1,89 @@
+-- Files and lists of records determine each other.
+use Rattle.std.proofs.Common.{◌≡◌, ℕ, ◌<◌, ◌^◌, List, [], ◌∷◌, length, refl, sym, ap, ◌∙◌, arith}
+use Rattle.std.proofs.lemmas.List.{length-append, length-map}
+use Rattle.std.proofs.lemmas.List.Elements.{All-append, All-cons, All-nil}
+use Rattle.std.specs.Prelude.{map}
+use Rattle.std.specs.List.{All, AllByRecursion}
+use Rattle.mg_frame.specs.Frames.{numbered_frames}
+use Rattle.mg_sealed.specs.Filling.{AreFilled, items_of, Grows}
+use Rattle.mg_sealed.specs.Lists.{FitFrames}
+use Rattle.mg_sealed.proofs.FillingLaws.{one_filling}
+use Rattle.mg_sealed.proofs.ListLaws.{one_list_of_frames, same_parts}
+use Rattle.mg_records.specs.File.{block_of, index_from, index_bytes, foot_of, foot_bytes, bodies_of, AreBlocks}
+use Rattle.mg_records.specs.Lists.{OneList, OneFileOfList}
+use Rattle.mg_records.specs.Record.{Kind, IsLawful}
+use Rattle.mg_records.proofs.BlockLaws.{block_of-append, each-left, each-right}
+use Rattle.mg_records.proofs.FileLaws.{length-index_from, length-index_bytes, length-foot_bytes}
+use Rattle.mg_records.proofs.LoadingLaws.{most_bytes}
+
+-- ---- one list
+
+-- some records have some bytes
+no_block_of_none : {T : Type 0} (kind : Kind T) → IsLawful kind → (x : T) (xs : List T) → kind.fits x → block_of kind (x ∷ xs) ≡ [] → ⊥
+no_block_of_none kind lawful x xs fit none = omega (arith, ap length none, length-append (kind.spelled x) (block_of kind xs), lawful.some_bytes x fit)
+
+-- a block is that of one list of records
+same_block : {T : Type 0} (kind : Kind T) → IsLawful kind → (xs ys : List T) → AllByRecursion kind.fits xs → AllByRecursion kind.fits ys → block_of kind xs ≡ block_of kind ys → xs ≡ ys
+same_block kind lawful [] [] fit fit' same = refl
+same_block kind lawful [] (y ∷ ys) fit fit' same = absurd (no_block_of_none kind lawful y ys fit'.0 (sym same))
+same_block kind lawful (x ∷ xs) [] fit fit' same = absurd (no_block_of_none kind lawful x xs fit.0 same)
+same_block kind lawful (x ∷ xs) (y ∷ ys) fit fit' same =
+    let first = lawful.one_spelling x y (block_of kind xs) (block_of kind ys) fit.0 fit'.0 same in
+    let rest = same_block kind lawful xs ys fit.1 fit'.1 first.1 in
+    cc (first.0, rest)
+
+same_blocks : {T : Type 0} (kind : Kind T) → IsLawful kind → (blocks others : List (List T)) → AllByRecursion kind.fits (items_of blocks) → AllByRecursion kind.fits (items_of others)
+    → map (block_of kind) blocks ≡ map (block_of kind) others → blocks ≡ others
+same_blocks kind lawful [] [] fit fit' same = refl
+same_blocks kind lawful [] (c ∷ others) fit fit' same = absurd cc
+same_blocks kind lawful (b ∷ blocks) [] fit fit' same = absurd cc
+same_blocks kind lawful (b ∷ blocks) (c ∷ others) fit fit' same =
+    let body : block_of kind b ≡ block_of kind c = cc in
+    let bodies : map (block_of kind) blocks ≡ map (block_of kind) others = cc in
+    let first = same_block kind lawful b c (each-left kind.fits b (items_of blocks) fit) (each-left kind.fits c (items_of others) fit') body in
+    let rest = same_blocks kind lawful blocks others (each-right kind.fits b (items_of blocks) fit) (each-right kind.fits c (items_of others) fit') bodies in
+    cc (first, rest)
+
+Small : List ℕ → Type 0
+Small body = length body < 2 ^ 32
+
+small_blocks : {T : Type 0} (kind : Kind T) → IsLawful kind → (blocks : List (List T)) → AreFilled (block_of kind) blocks → AllByRecursion kind.fits (items_of blocks)
+    → All Small (map (block_of kind) blocks)
+unfolding Small
+small_blocks kind lawful [] filled fit = All-nil Small
+small_blocks kind lawful (b ∷ blocks) filled fit =
+    let most = most_bytes kind lawful b (each-left kind.fits b (items_of blocks) fit) filled.0 in
+    All-cons Small (block_of kind b) (map (block_of kind) blocks) (omega (arith, most)) (small_blocks kind lawful blocks filled.2 (each-right kind.fits b (items_of blocks) fit))
+
+-- the bodies of a file fit frames
+fit_frames : {T : Type 0} (kind : Kind T) → IsLawful kind → (blocks : List (List T)) → AreBlocks kind blocks → FitFrames (bodies_of kind blocks)
+unfolding Small
+fit_frames kind lawful blocks are =
+    let index = index_bytes (index_from kind 0 blocks) in
+    let foot = foot_bytes (foot_of kind blocks) in
+    let before = map (block_of kind) blocks in
+    let small : length index < 2 ^ 32 = omega (arith, are.few, length-index_bytes (index_from kind 0 blocks), length-index_from kind 0 blocks) in
+    let small' : length foot < 2 ^ 32 = omega (arith, length-foot_bytes (foot_of kind blocks)) in
+    record {
+      few = omega (arith, are.few, length-append before (index ∷ foot ∷ []), length-map blocks (block_of kind));
+      small = All-append Small before (index ∷ foot ∷ []) (small_blocks kind lawful blocks are.filled are.fit)
+          (All-cons Small index (foot ∷ []) small (All-cons Small foot [] small' (All-nil Small)));
+    }
+
+pub one_list : {T : Type 0} (kind : Kind T) → IsLawful kind → OneList kind
+one_list kind lawful bytes records others is is' =
+    let frames = one_list_of_frames (bodies_of kind is.blocks) (bodies_of kind is'.blocks) (fit_frames kind lawful is.blocks is.are) (fit_frames kind lawful is'.blocks is'.are)
+    (sym is.spelling ∙ is'.spelling) in
+    let parts = same_parts (map (block_of kind) is.blocks) (map (block_of kind) is'.blocks) _ _ refl frames in
+    let blocks = same_blocks kind lawful is.blocks is'.blocks is.are.fit is'.are.fit parts.0 in
+    sym is.all ∙ ap items_of blocks ∙ is'.all
+
+-- ---- one file
+
+grows : {T : Type 0} (kind : Kind T) → Grows (block_of kind)
+grows kind xs more = omega (arith, ap length (block_of-append kind xs more), length-append (block_of kind xs) (block_of kind more))
+
+pub one_file_of_list : {T : Type 0} (kind : Kind T) → OneFileOfList kind
+one_file_of_list {T} kind bytes others records is is' =
+    let blocks = one_filling T (block_of kind) is.blocks is'.blocks (grows kind) is.are.filled is'.are.filled (is.all ∙ sym is'.all) in
+    is.spelling ∙ ap (λ bs. numbered_frames (bodies_of kind bs)) blocks ∙ sym is'.spelling
