@@ -6,8 +6,10 @@ pub mod FindingLaws
 pub mod FinishLaws
 pub mod IndexLaws
 pub mod KnownLaws
+pub mod ListLaws
 pub mod ListingLaws
 pub mod LoadingLaws
+pub mod OneFileLaws
 pub mod PayloadLaws
 pub mod PlaceLaws
 pub mod ReadingLaws

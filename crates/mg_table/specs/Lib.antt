@@ -2,6 +2,7 @@ pub mod Entries
 pub mod Filters
 pub mod Foot
 pub mod Index
+pub mod Lists
 pub mod Loading
 pub mod Payload
 pub mod Reading

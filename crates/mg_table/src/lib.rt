@@ -8,6 +8,7 @@ mod entry;
 mod fields;
 mod foot;
 mod index;
+pub mod laws;
 mod load;
 mod reading;
 mod table;

@@ -1,0 +1,147 @@
+-- Bytes are the table of one list of entries over one interval.
+use Rattle.std.proofs.Common.{◌≡◌, ℕ, ◌+◌, ◌<◌, ◌^◌, Bool, List, [], ◌∷◌, ◌++◌, length, map, drop, refl, sym, ap, ◌∙◌, arith, append_assoc, Some, Ok}
+use Rattle.std.proofs.lemmas.List.{append_cancel_left, drop_at, length-append, length-map, map-append}
+use Rattle.std.proofs.lemmas.List.Elements.{All-append, All-cons, All-head, All-nil, All-tail}
+use Rattle.std.specs.List.{All}
+use Rattle.mg_block.specs.View.{pairs_of}
+use Rattle.mg_block.specs.declared.pair.Pair.{Pair}
+use Rattle.mg_block.proofs.Spelling.{pairs_of-block_of}
+use Rattle.mg_frame.specs.BigEndian.{big_endian, front_number}
+use Rattle.mg_frame.proofs.BigEndianLaws.{front_number-big_endian, length-big_endian}
+use Rattle.mg_model.specs.declared.documents.Key.{Key}
+use Rattle.mg_sealed.specs.Filling.{items_of}
+use Rattle.mg_sealed.specs.Lists.{FitFrames}
+use Rattle.mg_sealed.proofs.ListLaws.{one_list_of_frames, same_parts}
+use Rattle.mg_table.specs.Entries.{block_body, first_key, pair_of, payload_of, IsEntry}
+use Rattle.mg_table.specs.Foot.{counts_bytes, foot_bytes, places_bytes, IsFoot}
+use Rattle.mg_table.specs.Index.{frame_length, index_bytes, places_from, IsIndexFrom}
+use Rattle.mg_table.specs.Lists.{OneTable}
+use Rattle.mg_table.specs.Payload.{judged_payload, numbers_of}
+use Rattle.mg_table.specs.Table.{foot_of, hashed_keys, table_bodies, IsTableOf}
+use Rattle.mg_table.specs.declared.entry.Entry.{Entry}
+use Rattle.mg_table.specs.declared.entry.Payload.{Payload}
+use Rattle.mg_table.specs.declared.foot.Foot.{Foot}
+use Rattle.mg_table.proofs.FinishLaws.{length-foot_bytes}
+use Rattle.mg_table.proofs.IndexLaws.{length-index_bytes}
+use Rattle.mg_table.proofs.LoadingLaws.{filter_is_body, foot_of_is_foot, index_of_table, length-places_from, places_fit}
+use Rattle.mg_table.proofs.PayloadLaws.{payload-read}
+use Rattle.mg_table.proofs.PlaceLaws.{foot_parts}
+
+-- ---- the bodies of a table fit frames
+
+Small : List ℕ → Type 0
+Small body = length body < 2 ^ 32
+
+small_blocks : (key : List ℕ) (at : ℕ) (blocks : List (List Entry)) (end : ℕ) → IsIndexFrom key at (places_from at blocks) end → All Small (map block_body blocks)
+unfolding Small
+small_blocks key at [] end is = All-nil Small
+small_blocks key at (b ∷ blocks) end is =
+    All-cons Small (block_body b) (map block_body blocks) (omega (arith, is.4)) (small_blocks (first_key b) (at + frame_length b) blocks end is.5)
+
+fit_frames : (lo hi : ℕ) (entries : List Entry) (blocks : List (List Entry)) (filter : List ℕ) → IsTableOf lo hi entries blocks filter → FitFrames (table_bodies lo hi blocks filter)
+unfolding Small
+fit_frames lo hi entries blocks filter parts =
+    let before = map block_body blocks in
+    let index = index_bytes (places_from 0 blocks) in
+    let foot = foot_bytes (foot_of lo hi blocks filter) in
+    let places = index_of_table lo hi entries blocks filter parts in
+    let small : length index < 2 ^ 32 =
+    omega (arith, parts.few, length-index_bytes (places_from 0 blocks) (places_fit [] 0 (places_from 0 blocks) _ places), length-places_from 0 blocks) in
+    let small' : length filter < 2 ^ 32 = omega (arith, (filter_is_body (hashed_keys entries) filter parts.filtered).at_most) in
+    let small'' : length foot < 2 ^ 32 = omega (arith, length-foot_bytes (foot_of lo hi blocks filter)) in
+    record {
+      few = omega (arith, parts.few, length-append before (index ∷ filter ∷ foot ∷ []), length-map blocks block_body);
+      small = All-append Small before (index ∷ filter ∷ foot ∷ []) (small_blocks [] 0 blocks _ places)
+          (All-cons Small index (filter ∷ foot ∷ []) small (All-cons Small filter (foot ∷ []) small' (All-cons Small foot [] small'' (All-nil Small))));
+    }
+
+-- ---- blocks
+
+-- blocks of the same bodies have the same pairs
+same_pairs : (blocks others : List (List Entry)) → map block_body blocks ≡ map block_body others → map pair_of (items_of blocks) ≡ map pair_of (items_of others)
+same_pairs [] [] same = refl
+same_pairs [] (c ∷ others) same = absurd cc
+same_pairs (b ∷ blocks) [] same = absurd cc
+same_pairs (b ∷ blocks) (c ∷ others) same =
+    let body : block_body b ≡ block_body c = cc in
+    let bodies : map block_body blocks ≡ map block_body others = cc in
+    let first : map pair_of b ≡ map pair_of c = sym (pairs_of-block_of (map pair_of b)) ∙ ap pairs_of body ∙ pairs_of-block_of (map pair_of c) in
+    map-append pair_of b (items_of blocks)
+    ∙ ap (λ ps. ps ++ map pair_of (items_of blocks)) first
+    ∙ ap (λ ps. map pair_of c ++ ps) (same_pairs blocks others bodies)
+    ∙ sym (map-append pair_of c (items_of others))
+
+entry_from : Key → ℕ → ℕ → Bool → Entry
+entry_from key seq size gone = record { key = key; seq = seq; size = size; gone = gone }
+
+-- an entry with the numbers of a payload
+entry_of : Key → Payload → Entry
+entry_of key numbers = entry_from key numbers.seq numbers.size numbers.gone
+
+same_entry : (entry other : Entry) → IsEntry entry → IsEntry other → pair_of entry ≡ pair_of other → entry ≡ other
+unfolding entry_of entry_from
+same_entry entry other is is' same =
+    let key : entry.key ≡ other.key = ap (λ (p : Pair). p.key) same in
+    let payload : payload_of entry ≡ payload_of other = ap (λ (p : Pair). p.payload) same in
+    let answers : Ok (numbers_of entry) ≡ Ok (numbers_of other) = sym (payload-read entry is) ∙ ap judged_payload payload ∙ payload-read other is' in
+    let numbers : numbers_of entry ≡ numbers_of other = cc in
+    ap (λ (k : Key). entry_of k (numbers_of entry)) key ∙ ap (entry_of other.key) numbers
+
+same_entries : (entries others : List Entry) → All IsEntry entries → All IsEntry others → map pair_of entries ≡ map pair_of others → entries ≡ others
+same_entries [] [] each each' same = refl
+same_entries [] (other ∷ others) each each' same = absurd cc
+same_entries (entry ∷ entries) [] each each' same = absurd cc
+same_entries (entry ∷ entries) (other ∷ others) each each' same =
+    let pair : pair_of entry ≡ pair_of other = cc in
+    let pairs : map pair_of entries ≡ map pair_of others = cc in
+    let first = same_entry entry other (All-head IsEntry entry entries each) (All-head IsEntry other others each') pair in
+    let rest = same_entries entries others (All-tail IsEntry entry entries each) (All-tail IsEntry other others each') pairs in
+    cc (first, rest)
+
+-- ---- the interval
+
+-- bytes begin with one number of a width
+same_field : (width n m : ℕ) (rest rest' : List ℕ) → n < 256 ^ width → m < 256 ^ width → big_endian width n ++ rest ≡ big_endian width m ++ rest' → (n ≡ m) × (rest ≡ rest')
+same_field width n m rest rest' fits fits' same =
+    let read : Some n ≡ Some m = sym (front_number-big_endian width n rest fits) ∙ ap (front_number width) same ∙ front_number-big_endian width m rest' fits' in
+    let number : n ≡ m = cc in
+    (number, append_cancel_left (big_endian width m) rest rest' (ap (λ k. big_endian width k ++ rest) (sym number) ∙ same))
+
+length-counts : (foot : Foot) → length (counts_bytes foot) ≡ 17
+length-counts foot =
+    omega (
+      arith,
+      length-append (big_endian 1 1 ++ big_endian 8 foot.entries) (big_endian 8 foot.sizes),
+      length-append (big_endian 1 1) (big_endian 8 foot.entries),
+      length-big_endian 1 1,
+      length-big_endian 8 foot.entries,
+      length-big_endian 8 foot.sizes,
+    )
+
+-- the interval stands behind the counts
+span_follows : (foot : Foot) → drop 17 (foot_bytes foot) ≡ big_endian 8 foot.lo ++ (big_endian 8 foot.hi ++ (places_bytes foot ++ []))
+span_follows foot =
+    ap (drop 17) (foot_parts foot) ∙ drop_at (counts_bytes foot) _ 17 (length-counts foot)
+    ∙ append_assoc (big_endian 8 foot.lo) (big_endian 8 foot.hi) (places_bytes foot ++ [])
+
+same_span : (foot other : Foot) → IsFoot foot → IsFoot other → foot_bytes foot ≡ foot_bytes other → (foot.lo ≡ other.lo) × (foot.hi ≡ other.hi)
+same_span foot other is is' same =
+    let low = same_field 8 foot.lo other.lo _ _ (omega (arith, is.lo)) (omega (arith, is'.lo)) (sym (span_follows foot) ∙ ap (drop 17) same ∙ span_follows other) in
+    let high = same_field 8 foot.hi other.hi _ _ (omega (arith, is.hi)) (omega (arith, is'.hi)) low.1 in
+    (low.0, high.0)
+
+-- ---- a table
+
+pub one_table : OneTable
+one_table bytes lo hi entries lo' hi' others is is' =
+    let p = is.parts in
+    let p' = is'.parts in
+    let frames = one_list_of_frames (table_bodies lo hi is.blocks is.filter) (table_bodies lo' hi' is'.blocks is'.filter) (fit_frames lo hi entries is.blocks is.filter p)
+    (fit_frames lo' hi' others is'.blocks is'.filter p') (sym is.bytes_are ∙ is'.bytes_are) in
+    let parts = same_parts (map block_body is.blocks) (map block_body is'.blocks) _ _ refl frames in
+    let tails = parts.1 in
+    let foot : foot_bytes (foot_of lo hi is.blocks is.filter) ≡ foot_bytes (foot_of lo' hi' is'.blocks is'.filter) = cc in
+    let span = same_span (foot_of lo hi is.blocks is.filter) (foot_of lo' hi' is'.blocks is'.filter) (foot_of_is_foot lo hi entries is.blocks is.filter p)
+    (foot_of_is_foot lo' hi' others is'.blocks is'.filter p') foot in
+    let pairs : map pair_of entries ≡ map pair_of others = ap (map pair_of) (sym p.whole) ∙ same_pairs is.blocks is'.blocks parts.0 ∙ ap (map pair_of) p'.whole in
+    (same_entries entries others p.rising.each p'.rising.each pairs, span.0, span.1)
