@@ -44,6 +44,7 @@ same_blocks kind lawful (b ∷ blocks) (c ∷ others) fit fit' same =
     let rest = same_blocks kind lawful blocks others (each-right kind.fits b (items_of blocks) fit) (each-right kind.fits c (items_of others) fit') bodies in
     cc (first, rest)
 
+-- a body that fits a frame
 Small : List ℕ → Type 0
 Small body = length body < 2 ^ 32
 

@@ -29,6 +29,7 @@ use Rattle.mg_table.proofs.PlaceLaws.{foot_parts}
 
 -- ---- the bodies of a table fit frames
 
+-- a body that fits a frame
 Small : List ℕ → Type 0
 Small body = length body < 2 ^ 32
 
