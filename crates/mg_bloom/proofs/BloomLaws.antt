@@ -65,7 +65,7 @@ pub test_from_power : (n : ℕ) → IsPowerOfTwo n → is_power_of_two n ≡ tru
 test_from_power n (k, is) = eq-eqb _ 1 (ap ones is ∙ ones-pow k)
 
 -- a power of two above 2 ^ j is at least the next one
-power_above : (j k : ℕ) → 2 ^ j < 2 ^ k → 2 ^ suc j ≤ 2 ^ k
+pub power_above : (j k : ℕ) → 2 ^ j < 2 ^ k → 2 ^ suc j ≤ 2 ^ k
 power_above j k above = elim (cases_lt j k) [
   | inl less ↦ pow-le-pow_right {n = 2} (omega arith) {i = suc j} {j = k} (omega arith)
   | inr more ↦ absurd (omega (arith, pow-le-pow_right {n = 2} (omega arith) {i = k} {j = j} more))
@@ -119,7 +119,7 @@ or_true : (b : Bool) → (b || true) ≡ true
 or_true true = refl
 or_true false = refl
 
-or_false : (b : Bool) → (b || false) ≡ b
+pub or_false : (b : Bool) → (b || false) ≡ b
 or_false true = refl
 or_false false = refl
 
@@ -206,7 +206,7 @@ has_words-added old new words some added = held_from old new [] words some added
 
 -- ---- a filter with no bit
 
-no_bit : (n p : ℕ) → has_bit (replicate n 0) p ≡ false
+pub no_bit : (n p : ℕ) → has_bit (replicate n 0) p ≡ false
 unfolding has_bit
 no_bit n p =
     let zero_byte : get_or (replicate n 0) (p / 8) 0 ≡ 0 = elim (cases_lt (p / 8) n) [

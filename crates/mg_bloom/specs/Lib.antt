@@ -1,1 +1,2 @@
 pub mod Bloom
+pub mod Folding

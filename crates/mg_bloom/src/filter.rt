@@ -1,9 +1,11 @@
 //! The filter and its body.
 
-ghost use Rattle.std.specs.Prelude.{◌≡◌, ℕ, List, false, length, replicate, IsTrue, IfOk, MatchOption};
+ghost use Rattle.std.specs.Prelude.{◌≡◌, ◌*◌, ◌<◌, ◌≤◌, ◌^◌, ℕ, List, false, length, replicate, IsTrue, IfOk, MatchOption};
 ghost use Rattle.mg_bloom.specs.Bloom.{bit_count, key_words, has_words, may_hold, AddsWords, IsBodyLength, IsBitCountFor};
+ghost use Rattle.mg_bloom.specs.Folding.{KeepsWords};
 
 use crate::bits::{has_words, set_words};
+use crate::fold::fold_to;
 use crate::hashed::HashedKey;
 use std::alloc::{AllocError, Global};
 use std::marker::Model;
@@ -92,6 +94,17 @@ impl Filter {
         ensures kept { (other : List ℕ) → IsTrue (has_words self.old other) → IsTrue (has_words self.new other) }
     {
         set_words(&mut self.body, key.words());
+    }
+
+    /// Folds the filter in halves to the size of one for so many keys, for which it has bits enough: one that was made for as
+    /// many keys or more has them. It then has the bits that it would have if the same keys had been put into an empty filter
+    /// of that size. It takes no memory, and time in proportion to the filter's size.
+    pub fn fold(&mut self, keys: u64)
+        requires enough { bit_count self.old < 2 ^ 31 → 10 * keys ≤ bit_count self.old }
+        ensures size { IsBitCountFor keys (bit_count self.new) }
+        ensures words { KeepsWords self.old self.new }
+    {
+        fold_to(&mut self.body, (bits_for(keys) / 8) as usize);
     }
 
     /// Whether the key may have been put in. Where the answer is false, it was not.

@@ -3,6 +3,7 @@
 
 mod bits;
 mod filter;
+mod fold;
 mod hashed;
 #[cfg(test)]
 mod tests;

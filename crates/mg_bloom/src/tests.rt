@@ -60,6 +60,25 @@ fn sizes_are_powers_of_two(rt: HostRuntime) -> Result<(), Fail> {
 }
 
 #[test]
+fn a_folded_filter_is_one_made_for_fewer_keys(rt: HostRuntime) -> Result<(), Fail> {
+    for keys in [0u32, 6, 7, 100, 10_000] {
+        let mut folded = Filter::sized(rt.alloc(), 10_000)?;
+        for number in 0..keys {
+            folded.put(&key_of(number));
+        }
+        let bits = 8 * folded.bytes().len() as u64;
+        let keys_put = u64::from(keys);
+        if bits < 10 * keys_put {
+            return Err("a filter of fewer than ten bits a key")?;
+        }
+        folded.fold(keys_put);
+        let direct = filter_of(rt.alloc(), keys)?;
+        assert_eq!(rt; folded.bytes(), direct.bytes(), "of {keys} keys");
+    }
+    Ok(())
+}
+
+#[test]
 fn most_other_keys_are_denied(rt: HostRuntime) -> Result<(), Fail> {
     // The second count is the greatest for which a filter has 131,072 bits.
     for keys in [10_000u32, 13_107] {
