@@ -68,7 +68,7 @@ fn filled(alloc: Global, port: &mut Port, entries: u64, size: usize) -> Result<T
     if entries >= 1 << 32 {
         bail!("too many entries");
     }
-    let mut writer = start_table(alloc, port, ID, 0, entries)?;
+    let mut writer = start_table(alloc, port, ID, 0, entries, entries)?;
     for number in 0..entries {
         let entry = Entry {
             key: key_of(alloc, 2 * number, size)?,

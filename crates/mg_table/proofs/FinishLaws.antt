@@ -1,23 +1,24 @@
 -- Blocks that are closed, and the table that they make.
 use Rattle.std.proofs.Common.{◌≡◌, ◌≢◌, ℕ, ◌+◌, ◌^◌, ◌<◌, inl, inr, List, [], ◌∷◌, ◌++◌, length, map, Option, IfSome, refl, sym, ap, ◌∙◌, arith, append_assoc, subst}
 use Rattle.std.proofs.lemmas.List.{length-append, length-map, map-append}
-use Rattle.mg_bloom.specs.Bloom.{key_words}
+use Rattle.mg_bloom.specs.Bloom.{bit_count, key_words, IsBitCountFor}
+use Rattle.mg_bloom.specs.Folding.{KeepsWords}
 use Rattle.mg_frame.specs.BigEndian.{big_endian}
 use Rattle.mg_frame.specs.Frames.{numbered_frames}
 use Rattle.mg_frame.proofs.BigEndianLaws.{length-big_endian}
 use Rattle.mg_sealed.specs.Filling.{AreFilled, items_of}
 use Rattle.mg_sealed.specs.Writing.{HasFrames}
 use Rattle.mg_table.specs.Entries.{block_body, first_key, pair_of}
-use Rattle.mg_table.specs.Filters.{IsFilterOf}
 use Rattle.mg_table.specs.Foot.{foot_bytes}
 use Rattle.mg_table.specs.Index.{index_bytes, places_from}
-use Rattle.mg_table.specs.Table.{foot_of, sizes_of, table_bodies, Stands}
+use Rattle.mg_table.specs.Table.{foot_of, hashed_keys, sizes_of, table_bodies, Stands}
 use Rattle.mg_table.specs.Writing.{ClosedBlocks, HasBlocks, IsWriting, Writing}
 use Rattle.mg_table.specs.declared.entry.Entry.{Entry}
 use Rattle.mg_table.specs.declared.foot.Foot.{Foot}
 use Rattle.mg_table.specs.declared.index.BlockPlace.{BlockPlace}
 use Rattle.mg_table.specs.declared.table.Table.{Table}
 use Rattle.mg_table.proofs.FilledLaws.{items_of-push}
+use Rattle.mg_table.proofs.FilterLaws.{IsFilterOf-folded}
 use Rattle.mg_table.proofs.IndexLaws.{length-frames, place_behind, places_from-push, total}
 
 -- ---- a block more is closed
@@ -94,9 +95,10 @@ pub record Finishes {D S : Type 0} (drafted : D → Option (List ℕ)) (told : S
   pub count : closed.frames.count < 2 ^ 23
   pub lo : writer.lo < 2 ^ 62
   pub hi : writer.hi < 2 ^ 62
-  pub filtered : IsFilterOf writer.hashed table.filter
+  pub filter_size : IsBitCountFor writer.count (bit_count table.filter)
+  pub filter_words : KeepsWords writer.filter table.filter
   pub index : table.index ≡ closed.index
-  pub entries : table.foot.entries ≡ length writer.hashed
+  pub entries : table.foot.entries ≡ writer.count
   pub sizes : table.foot.sizes ≡ writer.sizes
   pub from : table.foot.lo ≡ writer.lo
   pub to : table.foot.hi ≡ writer.hi
@@ -123,7 +125,7 @@ finished drafted told writer closed table entries blocks last is has ends =
     let count : closed.frames.count ≡ length all = has.frames.count ∙ length-map all block_body in
     let foot : table.foot ≡ foot_of table.foot.lo table.foot.hi all table.filter =
     foot_is table.foot (foot_of table.foot.lo table.foot.hi all table.filter)
-    (ends.entries ∙ ap length is.hashed ∙ length-map entries (λ (e : Entry). key_words e.key) ∙ sym (ap length whole))
+    (ends.entries ∙ is.count ∙ sym (ap length whole))
     (ends.sizes ∙ is.sizes ∙ sym (ap sizes_of whole)) refl refl
     (ends.index_at ∙ has.frames.len)
     (ends.filter_at ∙ ap (λ n. n + length (index_bytes closed.index) + 20) has.frames.len ∙ ap (λ ps. length (numbered_frames bodies) + length (index_bytes ps) + 20) has.index)
@@ -144,7 +146,8 @@ finished drafted told writer closed table entries blocks last is has ends =
         whole = whole;
         filled = filled;
         few = omega (arith, count, ends.count);
-        filtered = subst (λ (ws : List (List ℕ)). IsFilterOf ws table.filter) is.hashed ends.filtered;
+        filtered = IsFilterOf-folded (hashed_keys entries) writer.count writer.filter table.filter (is.count ∙ sym (length-map entries (λ (e : Entry). key_words e.key)))
+            ends.filter_size is.filter ends.filter_words;
         from = omega (arith, ends.from, ends.lo);
         to = omega (arith, ends.to, ends.hi);
       };

@@ -1,15 +1,17 @@
 -- A table in writing, with one entry more.
-use Rattle.std.proofs.Common.{◌≡◌, ◌≢◌, ℕ, ◌+◌, ◌<◌, ◌≤◌, inl, inr, List, [], ◌∷◌, ◌++◌, length, map, Option, refl, sym, ap, ◌∙◌, append_assoc}
-use Rattle.std.proofs.lemmas.List.{append-nil, map-append}
+use Rattle.std.proofs.Common.{◌≡◌, ◌≢◌, ℕ, ◌+◌, ◌<◌, ◌≤◌, inl, inr, List, [], ◌∷◌, ◌++◌, length, map, Option, refl, sym, ap, ◌∙◌, append_assoc, arith}
+use Rattle.std.proofs.lemmas.List.{append-nil, length-append, map-append}
 use Rattle.mg_block.specs.Block.{block_of, Follows, Precedes}
 use Rattle.mg_block.specs.View.{last_pair}
 use Rattle.mg_block.specs.declared.pair.Pair.{Pair}
-use Rattle.mg_bloom.specs.Bloom.{key_words}
+use Rattle.mg_bloom.specs.Bloom.{key_words, AddsWords}
 use Rattle.mg_sealed.specs.Filling.{Fits, AreFilled, items_of}
 use Rattle.mg_table.specs.Entries.{block_body, first_key, pair_of, payload_of, IsEntry}
+use Rattle.mg_table.specs.Table.{hashed_keys}
 use Rattle.mg_table.specs.Writing.{ClosedBlocks, Fills, HasBlocks, IsReady, IsWriting, Writing}
 use Rattle.mg_table.specs.declared.entry.Entry.{Entry}
 use Rattle.mg_table.proofs.EntryLaws.{last_of-behind, sizes_of-push, AreEntries-push}
+use Rattle.mg_table.proofs.FilterLaws.{HasBitsOf-put}
 use Rattle.mg_table.proofs.FilledLaws.{filled-more, filled-closed, items_of-push}
 
 -- no entry makes a block empty
@@ -92,7 +94,8 @@ pub record Pushes {D : Type 0} (old new : Writing D) (block : List Pair) (entry 
   pub block_is : new.block ≡ block ++ pair_of entry ∷ []
   pub begun : block ≡ [] → new.first ≡ entry.key
   pub kept : block ≢ [] → new.first ≡ old.first
-  pub hashed : new.hashed ≡ old.hashed ++ key_words entry.key ∷ []
+  pub filter : AddsWords old.filter new.filter (key_words entry.key)
+  pub count : new.count ≡ old.count + 1
   pub sizes : new.sizes ≡ old.sizes + entry.size
 
 pub pushed : {D : Type 0} (drafted : D → Option (List ℕ)) (old new : Writing D) (block : List Pair) (entry : Entry) (entries : List Entry) (blocks : List (List Entry)) (last : List Entry)
@@ -114,7 +117,9 @@ pushed drafted old new block entry entries blocks last is ready pushes fits key 
         first = λ some. first-more ready.opened entry block old.first new.first ready.block_is
             (λ begun. elim ready.kept [ inl none ↦ absurd (begun none) | inr same ↦ is.first (λ none. begun (same ∙ none)) ∙ ap first_key (sym same) ])
             pushes.begun pushes.kept;
-        hashed = pushes.hashed ∙ ap (λ (ws : List (List ℕ)). ws ++ key_words entry.key ∷ []) is.hashed ∙ sym (map-append (λ (e : Entry). key_words e.key) entries (entry ∷ []));
+        filter = HasBitsOf-put old.filter new.filter (hashed_keys entries) (hashed_keys (entries ++ entry ∷ [])) (key_words entry.key) is.filter pushes.filter
+            (map-append (λ (e : Entry). key_words e.key) entries (entry ∷ []));
+        count = omega (arith, pushes.count, is.count, length-append entries (entry ∷ []));
         sizes = pushes.sizes ∙ ap (λ n. n + entry.size) is.sizes ∙ sym (sizes_of-push entries entry);
         rising = AreEntries-push entries entry is.rising fits follows;
         parts = sym (append_assoc (items_of ready.now) ready.opened (entry ∷ [])) ∙ ap (λ es. es ++ entry ∷ []) (ready.same ∙ is.parts);

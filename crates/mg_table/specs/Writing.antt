@@ -1,8 +1,10 @@
 -- A table in writing.
 use Rattle.std.specs.Prelude.{◌≡◌, ◌≢◌, ℕ, ◌-◌, ◌*◌, ◌≤◌, ◌<◌, ◌^◌, ◌⊎◌, List, [], ◌∷◌, ◌++◌, length, map, Option}
-use Rattle.std.specs.List.{All}
+use Rattle.std.specs.List.{concat, All}
 use Rattle.mg_block.specs.Block.{block_of}
 use Rattle.mg_block.specs.declared.pair.Pair.{Pair}
+use Rattle.mg_bloom.specs.Bloom.{bit_count, IsBitCountFor}
+use Rattle.mg_bloom.specs.Folding.{HasBitsOf}
 use Rattle.mg_model.specs.declared.faults.FileId.{FileId}
 use Rattle.mg_sealed.specs.Filling.{AreFilled, items_of}
 use Rattle.mg_sealed.specs.Writing.{Written, HasFrames}
@@ -28,7 +30,8 @@ pub record HasBlocks {D : Type 0} (drafted : D → Option (List ℕ)) (closed : 
   pub frames : HasFrames drafted closed.frames (map block_body blocks)
   pub index : closed.index ≡ places_from 0 blocks
 
--- what a writer keeps: the closed blocks, the open one with its first key, what the keys were hashed to, and the sum of sizes
+-- what a writer keeps: the closed blocks, the open one with its first key, the filter's body, how many entries may come at
+-- most, how many came, and the sum of their sizes
 pub record Writing (D : Type 0) : Type 0 where
   pub id : FileId
   pub lo : ℕ
@@ -36,23 +39,27 @@ pub record Writing (D : Type 0) : Type 0 where
   pub closed : ClosedBlocks D
   pub block : List Pair
   pub first : List ℕ
-  pub hashed : List (List ℕ)
+  pub filter : List ℕ
+  pub most : ℕ
+  pub count : ℕ
   pub sizes : ℕ
 
 -- a block more and an entry more find room
 pub record HasRoom {D : Type 0} (writer : Writing D) : Type 0 where
   pub blocks : writer.closed.frames.count < 2 ^ 23 - 2
-  pub entries : length writer.hashed < 2 ^ 32
+  pub entries : writer.count < writer.most
 
--- what a writer keeps is bounded
+-- What a writer keeps is bounded, and its filter has the size for as many entries as may come.
 pub record IsBounded {D : Type 0} (writer : Writing D) : Type 0 where
   pub lo : writer.lo < 2 ^ 62
   pub hi : writer.hi < 2 ^ 62
   pub blocks : writer.closed.frames.count ≤ 2 ^ 23 - 2
   pub block : length (block_of writer.block) ≤ 4096
   pub first : length writer.first ≤ 250
-  pub hashed : length writer.hashed ≤ 2 ^ 32
-  pub sizes : writer.sizes ≤ 1048826 * length writer.hashed
+  pub most : writer.most ≤ 2 ^ 32
+  pub count : writer.count ≤ writer.most
+  pub filter : IsBitCountFor writer.most (bit_count writer.filter)
+  pub sizes : writer.sizes ≤ 1048826 * writer.count
 
 -- no block is begun; or the blocks with the open one behind them are filled in order, and the open one is not empty
 abbrev pub Fills : List (List Entry) → List Entry → Type 0
@@ -69,12 +76,14 @@ pub record IsReady {D : Type 0} (drafted : D → Option (List ℕ)) (closed : Cl
   pub kept : (opened ≡ []) ⊎ (opened ≡ last)
   pub filled : AreFilled block_body (now ++ (opened ++ entry ∷ []) ∷ [])
 
--- The writer stands behind these entries, in these closed blocks and the open one.
+-- The writer stands behind these entries, in these closed blocks and the open one. Its filter has the bits of their keys and
+-- no others.
 pub record IsWriting {D : Type 0} (drafted : D → Option (List ℕ)) (writer : Writing D) (entries : List Entry) (blocks : List (List Entry)) (last : List Entry) : Type 0 where
   pub closed : HasBlocks drafted writer.closed blocks
   pub block : writer.block ≡ map pair_of last
   pub first : last ≢ [] → writer.first ≡ first_key last
-  pub hashed : writer.hashed ≡ hashed_keys entries
+  pub filter : HasBitsOf writer.filter (concat (hashed_keys entries))
+  pub count : writer.count ≡ length entries
   pub sizes : writer.sizes ≡ sizes_of entries
   pub rising : AreEntries entries
   pub parts : items_of blocks ++ last ≡ entries

@@ -53,7 +53,7 @@ fn push(
 }
 
 fn worked(alloc: Global, port: &mut MemFiles) -> Result<Table<MemSealed>, Fault> {
-    let mut writer = start_table(alloc, port, ID, 0, 3)?;
+    let mut writer = start_table(alloc, port, ID, 0, 3, 2)?;
     push(alloc, port, &mut writer, &entry(alloc, b"a", 3, 2, false)?)?;
     push(alloc, port, &mut writer, &entry(alloc, b"b", 2, 2, false)?)?;
     if writer.is_empty() {
@@ -246,7 +246,7 @@ fn key_of(number: u64) -> [u8; 20] {
 fn each_of_many_keys_is_found_and_no_other(rt: HostRuntime) -> Result<(), Fail> {
     let alloc = rt.alloc();
     let mut port = MemFiles::new(Vec::new(alloc));
-    let mut writer = start_table(alloc, &mut port, ID, 0, 300)?;
+    let mut writer = start_table(alloc, &mut port, ID, 0, 300, 5_000)?;
     for number in 0..300u64 {
         let entry = entry(alloc, &key_of(2 * number), number + 1, 23, number % 3 == 0)?;
         push(alloc, &mut port, &mut writer, &entry)?;

@@ -6,7 +6,6 @@ ghost use Rattle.mg_block.specs.View.{last_pair};
 ghost use Rattle.mg_faults.specs.Causes.{HasCause};
 ghost use Rattle.mg_sealed.specs.Answers.{IsUnwritten};
 ghost use Rattle.mg_table.specs.Entries.{block_body, first_key, pair_of, payload_of, IsEntry};
-ghost use Rattle.mg_table.specs.Filters.{IsFilterOf};
 ghost use Rattle.mg_table.specs.Table.{Stands};
 ghost use Rattle.mg_table.specs.Writing.{Fills, HasBlocks, HasEntries, HasRoom, IsReady};
 ghost use Rattle.mg_table.specs.declared.entry.Entry.{Entry};
@@ -16,7 +15,7 @@ use crate::foot::{Foot, foot_body};
 use crate::index::{BlockPlace, index_body};
 use crate::table::Table;
 use mg_block::BlockBuilder;
-use mg_bloom::{Filter, HashedKey};
+use mg_bloom::Filter;
 use mg_disk::Files;
 use mg_items::Items;
 use mg_model::{Fault, FileId, Key};
@@ -29,9 +28,6 @@ const BLOCK_LIMIT: usize = 4_096;
 
 /// Before so many blocks are closed there is room for an entry.
 const BLOCKS: u64 = (1 << 23) - 2;
-
-/// Before so many entries there is room for one.
-const ENTRIES: usize = 1 << 32;
 
 /// The blocks that were closed.
 #[derive(Drop)]
@@ -52,8 +48,10 @@ impl<D> Model for Closed<D> {
 
 /// A table in writing.
 ///
-/// It keeps one block, the index, and seven words for each key: how large the filter is depends on the number of keys, which
-/// is known at the end alone. After an error it is only dropped.
+/// It keeps one block, the index, and the bits of a filter for as many entries as may come at most: 10 to 20 bits for each of
+/// them, and no more than 2^31. At the end the filter is folded to the size for the entries that came, in the same memory, so
+/// a bound that is far too great changes nothing of the file; it costs the memory of its bits, which the table keeps until it
+/// is dropped, and the time to clear and to fold them. After an error the writer is only dropped.
 #[derive(Drop)]
 pub struct TableWriter<D> {
     id: FileId,
@@ -62,7 +60,9 @@ pub struct TableWriter<D> {
     closed: Closed<D>,
     block: BlockBuilder,
     first_key: Vec<u8>,
-    hashed: Items<HashedKey>,
+    filter: Filter,
+    most: u64,
+    count: u64,
     sizes: u64,
     payload: Vec<u8>,
 }
@@ -72,17 +72,17 @@ impl<D> Model for TableWriter<D> {
 
     ghost Value = { Writing D };
 
-    ghost view = { λ w. record { id = w.id; lo = w.lo; hi = w.hi; closed = w.closed; block = w.block; first = w.first_key.items; hashed = w.hashed; sizes = w.sizes } };
+    ghost view = { λ w. record { id = w.id; lo = w.lo; hi = w.hi; closed = w.closed; block = w.block; first = w.first_key.items; filter = w.filter; most = w.most; count = w.count; sizes = w.sizes } };
 
-    ghost invariant = { λ w. IsBounded (record { id = w.id; lo = w.lo; hi = w.hi; closed = w.closed; block = w.block; first = w.first_key.items; hashed = w.hashed; sizes = w.sizes }) };
+    ghost invariant = { λ w. IsBounded (record { id = w.id; lo = w.lo; hi = w.hi; closed = w.closed; block = w.block; first = w.first_key.items; filter = w.filter; most = w.most; count = w.count; sizes = w.sizes }) };
 }
 
 impl<D> TableWriter<D> {
-    /// Whether there is no room for an entry more.
+    /// Whether there is no room for an entry more: as many as may come are in it, or too many blocks are closed.
     pub fn is_full(&self) -> bool
         ensures { IsTrue result ↔ ¬ HasRoom self.now }
     {
-        self.closed.frames.count() >= BLOCKS || self.hashed.len() >= ENTRIES
+        self.closed.frames.count() >= BLOCKS || self.count >= self.most
     }
 
     /// Whether the key is above those of all entries that were put in.
@@ -100,21 +100,26 @@ impl<D> TableWriter<D> {
     }
 }
 
-/// A table without an entry, over the interval above `lo` up to `hi`.
+/// A table without an entry, over the interval above `lo` up to `hi`. At most `most` entries may be put in.
+/// `TableWriter` says what a bound costs that is far above their number.
 pub fn start_table<F: Files>(
     alloc: Global,
     port: &mut F,
     id: FileId,
     lo: u64,
     hi: u64,
+    most: u64,
 ) -> Result<TableWriter<F::Draft>, Fault>
     requires from { lo < 2 ^ 62 }
     requires to { hi < 2 ^ 62 }
+    requires most { most ≤ 2 ^ 32 }
     ensures empty { IfOk result (λ writer. HasEntries F.drafted writer []) }
     ensures span { IfOk result (λ writer. (writer.lo ≡ lo) × (writer.hi ≡ hi) × (writer.id ≡ id)) }
+    ensures most { IfOk result (λ writer. writer.most ≡ most) }
     ensures outside { IfErr result (λ fault. IsUnwritten fault) }
     ensures cause { HasCause Fault.WriteFault (F.faults port.old) (F.faults port.new) result }
 {
+    let filter = Filter::sized(alloc, most)?;
     let frames = start_frames(alloc, port)?;
     let closed = Closed {
         frames,
@@ -127,7 +132,9 @@ pub fn start_table<F: Files>(
         closed,
         block: BlockBuilder::new(alloc),
         first_key: Vec::new(alloc),
-        hashed: Items::new(alloc),
+        filter,
+        most,
+        count: 0,
         sizes: 0,
         payload: Vec::new(alloc),
     })
@@ -175,6 +182,7 @@ pub fn push_entry<F: Files>(
     ensures entries { (entries : List Entry) → HasEntries F.drafted writer.old entries →
         OnOk result (HasEntries F.drafted writer.new (entries ++ entry.now ∷ [])) }
     ensures span { (writer.new.lo ≡ writer.old.lo) × (writer.new.hi ≡ writer.old.hi) × (writer.new.id ≡ writer.old.id) }
+    ensures most { writer.new.most ≡ writer.old.most }
     ensures outside { IfErr result (λ fault. IsUnwritten fault) }
     ensures cause { HasCause Fault.WriteFault (F.faults port.old) (F.faults port.new) result }
 {
@@ -192,7 +200,8 @@ pub fn push_entry<F: Files>(
     )?;
     keep_first(&writer.block, key, &mut writer.first_key)?;
     push_pair(&mut writer.block, key, &writer.payload)?;
-    writer.hashed.push(HashedKey::new(key))?;
+    writer.filter.put(key);
+    writer.count += 1;
     writer.sizes += u64::from(entry.size);
     Ok(())
 }
@@ -259,17 +268,6 @@ fn make_room<F: Files>(
     Ok(())
 }
 
-/// The filter of keys that are hashed already.
-fn filter_of(alloc: Global, hashed: &[HashedKey]) -> Result<Filter, AllocError>
-    ensures { IfOk result (λ filter. IsFilterOf hashed.now filter) }
-{
-    let mut filter = Filter::sized(alloc, hashed.len() as u64)?;
-    for key in hashed {
-        filter.put_hashed(key);
-    }
-    Ok(filter)
-}
-
 /// The table, sealed. It has at least one entry.
 pub fn finish_table<F: Files>(
     alloc: Global,
@@ -291,19 +289,21 @@ pub fn finish_table<F: Files>(
         mut closed,
         block,
         first_key,
-        hashed,
+        mut filter,
+        most: _,
+        count,
         sizes,
         payload: _,
     } = writer;
+    filter.fold(count);
     close_block(alloc, port, &mut closed, block.bytes(), &first_key)?;
     let Closed { mut frames, index } = closed;
     let blocks = frames.count() as u32;
-    let filter = filter_of(alloc, hashed.as_slice())?;
     let index_bytes = index_body(alloc, index.as_slice())?;
     let index_at = append_frame(alloc, port, &mut frames, &index_bytes)?.at;
     let filter_at = append_frame(alloc, port, &mut frames, filter.bytes())?.at;
     let foot = Foot {
-        entries: hashed.len() as u64,
+        entries: count,
         sizes,
         lo,
         hi,

@@ -2,7 +2,6 @@ use Rattle.std.proofs.Common.{◌≡◌, ◌≢◌, ◌+◌, ◌∙◌, List, []
 use Rattle.mg_block.specs.Block.{block_of}
 use Rattle.mg_sealed.specs.Writing.{HasFrames}
 use Rattle.mg_table.specs.Entries.{pair_of}
-use Rattle.mg_table.specs.Filters.{IsFilterOf}
 use Rattle.mg_table.specs.Foot.{foot_bytes}
 use Rattle.mg_table.specs.Index.{index_bytes}
 use Rattle.mg_table.specs.Writing.{HasBlocks, IsWriting}
@@ -12,21 +11,21 @@ use Rattle.mg_table.proofs.writer.finish_table.Goals as goal
 
 pub append_frame-requires-clause-body : goal.append_frame-requires-clause-body
 append_frame-requires-clause-body g c = λ κs live.
-    let bytes : c.deref-2.result.now ≡ index_bytes c.closed-2.inside.index = c.deref-2.ensures.value ∙ c.in_ok-index_bytes.ensures ∙ ap index_bytes c.as_slice-2.ensures in
+    let bytes : c.deref-2.result.now ≡ index_bytes c.closed-2.inside.index = c.deref-2.ensures.value ∙ c.in_ok-index_bytes.ensures ∙ ap index_bytes c.as_slice.ensures in
     let few = length-index_bytes c.closed-2.inside.index c.closed-2.invariant.places in
     let count : c.closed-2.inside.frames.count ≡ c.writer.inside.closed.frames.count + 1 = ap (λ w. w.frames.count) c.closed-2.view_is ∙ c.in_ok-close_block.ensures.count in
     omega (arith, ap length bytes, few, count, c.closed-2.invariant.index, c.closed-2.invariant.len, c.writer.invariant.blocks)
 
 pub append_frame-requires-clause-room : goal.append_frame-requires-clause-room
 append_frame-requires-clause-room g c = λ κs live.
-    let bytes : c.deref-2.result.now ≡ index_bytes c.closed-2.inside.index = c.deref-2.ensures.value ∙ c.in_ok-index_bytes.ensures ∙ ap index_bytes c.as_slice-2.ensures in
+    let bytes : c.deref-2.result.now ≡ index_bytes c.closed-2.inside.index = c.deref-2.ensures.value ∙ c.in_ok-index_bytes.ensures ∙ ap index_bytes c.as_slice.ensures in
     let few = length-index_bytes c.closed-2.inside.index c.closed-2.invariant.places in
     let count : c.closed-2.inside.frames.count ≡ c.writer.inside.closed.frames.count + 1 = ap (λ w. w.frames.count) c.closed-2.view_is ∙ c.in_ok-close_block.ensures.count in
     omega (arith, ap length bytes, few, count, c.closed-2.invariant.index, c.closed-2.invariant.len, c.writer.invariant.blocks)
 
 pub append_frame-requires-2-clause-room : goal.append_frame-requires-2-clause-room
 append_frame-requires-2-clause-room g c = λ κs live.
-    let bytes : c.deref-2.result.now ≡ index_bytes c.closed-2.inside.index = c.deref-2.ensures.value ∙ c.in_ok-index_bytes.ensures ∙ ap index_bytes c.as_slice-2.ensures in
+    let bytes : c.deref-2.result.now ≡ index_bytes c.closed-2.inside.index = c.deref-2.ensures.value ∙ c.in_ok-index_bytes.ensures ∙ ap index_bytes c.as_slice.ensures in
     let few = length-index_bytes c.closed-2.inside.index c.closed-2.invariant.places in
     let count : c.closed-2.inside.frames.count ≡ c.writer.inside.closed.frames.count + 1 = ap (λ w. w.frames.count) c.closed-2.view_is ∙ c.in_ok-close_block.ensures.count in
     omega (arith, ap length bytes, few, count, c.closed-2.invariant.index, c.closed-2.invariant.len, c.writer.invariant.blocks, c.in_ok-index_at.ensures.len, c.bytes-2.ensures.size.at_most, ap length c.bytes-2.ensures.body)
@@ -38,7 +37,7 @@ append_frame-requires-3-clause-body g c = λ κs live.
 
 pub append_frame-requires-3-clause-room : goal.append_frame-requires-3-clause-room
 append_frame-requires-3-clause-room g c = λ κs live.
-    let bytes : c.deref-2.result.now ≡ index_bytes c.closed-2.inside.index = c.deref-2.ensures.value ∙ c.in_ok-index_bytes.ensures ∙ ap index_bytes c.as_slice-2.ensures in
+    let bytes : c.deref-2.result.now ≡ index_bytes c.closed-2.inside.index = c.deref-2.ensures.value ∙ c.in_ok-index_bytes.ensures ∙ ap index_bytes c.as_slice.ensures in
     let few = length-index_bytes c.closed-2.inside.index c.closed-2.invariant.places in
     let count : c.closed-2.inside.frames.count ≡ c.writer.inside.closed.frames.count + 1 = ap (λ w. w.frames.count) c.closed-2.view_is ∙ c.in_ok-close_block.ensures.count in
     let foot = c.deref-3.ensures.value ∙ c.in_ok-foot_body.ensures in
@@ -46,7 +45,7 @@ append_frame-requires-3-clause-room g c = λ κs live.
 
 pub returns-clause-table : goal.returns-clause-table
 returns-clause-table g c = λ entries stands.
-    let bytes : c.deref-2.result.now ≡ index_bytes c.closed-2.inside.index = c.deref-2.ensures.value ∙ c.in_ok-index_bytes.ensures ∙ ap index_bytes c.as_slice-2.ensures in
+    let bytes : c.deref-2.result.now ≡ index_bytes c.closed-2.inside.index = c.deref-2.ensures.value ∙ c.in_ok-index_bytes.ensures ∙ ap index_bytes c.as_slice.ensures in
     let few = length-index_bytes c.closed-2.inside.index c.closed-2.invariant.places in
     let count : c.closed-2.inside.frames.count ≡ c.writer.inside.closed.frames.count + 1 = ap (λ w. w.frames.count) c.closed-2.view_is ∙ c.in_ok-close_block.ensures.count in
     let foot = c.deref-3.ensures.value ∙ c.in_ok-foot_body.ensures in
@@ -60,19 +59,20 @@ returns-clause-table g c = λ entries stands.
     let some : last ≢ [] = λ none. begun (is.block ∙ ap (map pair_of) none) in
     let closed = c.in_ok-close_block.ensures.blocks blocks last is.closed (c.bytes.ensures.block ∙ ap block_of is.block) (c.deref.ensures.value ∙ is.first some) in
     let closed' = subst (λ w. HasBlocks drafted w (blocks ++ last ∷ [])) (sym c.closed-2.view_is) closed in
-    let filter = c.in_ok-filter.filter in
+    let filter = c.fold.new.self in
     let frames = c.closed-2.inside.frames in
     finished drafted told
-    (record { id = inside.id; lo = inside.lo; hi = inside.hi; closed = inside.closed; block = inside.block; first = inside.first_key.items; hashed = inside.hashed; sizes = inside.sizes })
+    (record { id = inside.id; lo = inside.lo; hi = inside.hi; closed = inside.closed; block = inside.block; first = inside.first_key.items; filter = inside.filter; most = inside.most; count = inside.count; sizes = inside.sizes })
     (record { frames = frames; index = c.closed-2.inside.index }) _ entries blocks last is closed'
     (record {
       some = begun;
       count = omega (arith, count, c.writer.invariant.blocks);
       lo = c.writer.invariant.lo;
       hi = c.writer.invariant.hi;
-      filtered = subst (λ (ws : List (List ℕ)). IsFilterOf ws filter) c.as_slice.ensures c.in_ok-filter.ensures;
+      filter_size = c.fold.ensures.size;
+      filter_words = c.fold.ensures.words;
       index = refl;
-      entries = c.len.ensures;
+      entries = refl;
       sizes = refl;
       from = refl;
       to = refl;

@@ -1,8 +1,8 @@
-use Rattle.std.proofs.Common.{◌≡◌, ◌+◌, ◌∙◌, List, [], ◌∷◌, ◌++◌, ℕ, sym, ap, subst, length, arith}
+use Rattle.std.proofs.Common.{◌≡◌, ◌+◌, ◌∙◌, List, [], ◌∷◌, ◌++◌, ℕ, refl, sym, ap, subst, length, arith}
 use Rattle.mg_block.specs.Block.{Precedes}
 use Rattle.mg_block.specs.View.{last_pair}
 use Rattle.mg_block.specs.declared.pair.Pair.{Pair}
-use Rattle.mg_bloom.specs.Bloom.{key_words}
+use Rattle.mg_bloom.specs.Bloom.{key_words, AddsWords}
 use Rattle.mg_table.specs.Entries.{pair_of, payload_of}
 use Rattle.mg_table.specs.Writing.{IsWriting}
 use Rattle.mg_table.proofs.EntryLaws.{length-payload_of}
@@ -42,14 +42,15 @@ returns-clause-entries g c = λ entries stands.
     let given : Pair = record { key = c.bytes-key.result.now; payload = c.deref-3.result.now } in
     let same : given ≡ pair_of entry = cc (key, payload, c.deref-3.ensures.value, c.deref-2.ensures.value) in
     pushed drafted
-    (record { id = inside.id; lo = inside.lo; hi = inside.hi; closed = inside.closed; block = inside.block; first = inside.first_key.items; hashed = inside.hashed; sizes = inside.sizes })
-    (record { id = inside.id; lo = inside.lo; hi = inside.hi; closed = c.make_room.new.closed; block = c.push_pair.new.block; first = c.keep_first.new.first.items; hashed = c.push.new.self; sizes = inside.sizes + c.from.result })
+    (record { id = inside.id; lo = inside.lo; hi = inside.hi; closed = inside.closed; block = inside.block; first = inside.first_key.items; filter = inside.filter; most = inside.most; count = inside.count; sizes = inside.sizes })
+    (record { id = inside.id; lo = inside.lo; hi = inside.hi; closed = c.make_room.new.closed; block = c.push_pair.new.block; first = c.keep_first.new.first.items; filter = c.put.new.self; most = inside.most; count = inside.count + 1; sizes = inside.sizes + c.from.result })
     c.make_room.new.block entry entries blocks last is ready
     (record {
       block_is = c.in_ok-push_pair.ensures.ok ∙ ap (λ (p : Pair). c.make_room.new.block ++ p ∷ []) same;
       begun = λ none. c.in_ok-keep_first.ensures.begun none ∙ key;
       kept = λ some. c.in_ok-keep_first.ensures.kept some;
-      hashed = c.in_ok-push.ensures.ok ∙ ap (λ (ws : List ℕ). inside.hashed ++ ws ∷ []) (c.new.ensures ∙ ap key_words key);
+      filter = subst (λ (k : List ℕ). AddsWords inside.filter c.put.new.self (key_words k)) key c.put.ensures.exact;
+      count = refl;
       sizes = ap (λ n. inside.sizes + n) c.from.ensures;
     })
     c.requires.entry (omega (arith, c.bytes-key.ensures.form.1)) (omega (arith, length-payload_of entry)) rises

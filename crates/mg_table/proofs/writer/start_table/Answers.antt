@@ -1,6 +1,7 @@
 use Rattle.std.proofs.Common.{[], inl, refl, sym}
 use Rattle.std.proofs.lemmas.List.Elements.{All-nil}
 use Rattle.mg_table.specs.Entries.{IsEntry}
+use Rattle.mg_table.proofs.FilterLaws.{HasBitsOf-none}
 use Rattle.mg_table.proofs.EntryLaws.{sizes_of-none}
 use Rattle.mg_table.proofs.writer.start_table.Goals as goal
 
@@ -12,7 +13,8 @@ returns-clause-empty g c = (
     closed = record { frames = c.in_ok-frames.ensures.empty; index = cc };
     block = cc;
     first = λ some. absurd (some refl);
-    hashed = cc;
+    filter = HasBitsOf-none c.in_ok-filter.filter c.in_ok-filter.ensures.empty;
+    count = refl;
     sizes = sym sizes_of-none;
     rising = record { rising = tt; each = All-nil IsEntry };
     parts = refl;
