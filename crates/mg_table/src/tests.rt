@@ -52,14 +52,22 @@ fn push(
     push_entry(alloc, port, writer, entry)
 }
 
-fn worked(alloc: Global, port: &mut MemFiles) -> Result<Table<MemSealed>, Fault> {
-    let mut writer = start_table(alloc, port, ID, 0, 3, 2)?;
+/// The worked table, where so many entries may come.
+fn worked_of(alloc: Global, port: &mut MemFiles, most: u64) -> Result<Table<MemSealed>, Fault> {
+    if most > 1 << 32 {
+        return Err(Fault::BadWords);
+    }
+    let mut writer = start_table(alloc, port, ID, 0, 3, most)?;
     push(alloc, port, &mut writer, &entry(alloc, b"a", 3, 2, false)?)?;
     push(alloc, port, &mut writer, &entry(alloc, b"b", 2, 2, false)?)?;
     if writer.is_empty() {
         return Err(Fault::BadWords);
     }
     finish_table(alloc, port, writer)
+}
+
+fn worked(alloc: Global, port: &mut MemFiles) -> Result<Table<MemSealed>, Fault> {
+    worked_of(alloc, port, 2)
 }
 
 fn bytes_of(
@@ -78,15 +86,32 @@ fn bytes_of(
 #[test]
 fn a_table_is_the_worked_one(rt: HostRuntime) -> Result<(), Fail> {
     let alloc = rt.alloc();
-    let mut port = MemFiles::new(Vec::new(alloc));
-    let table = worked(alloc, &mut port)?;
-    assert_eq!(rt; table.count(), 2);
-    assert_eq!(rt; table.bytes(), 4);
-    assert_eq!(rt; table.span(), (0, 3));
-    assert_eq!(rt;
-        bytes_of(alloc, &mut port, &table)?.as_slice(),
-        WORKED.as_slice()
-    );
+    // The first bound is the number of entries; for the others the filter is made larger, and folded.
+    for most in [2, 7, 13, 10_000] {
+        let mut port = MemFiles::new(Vec::new(alloc));
+        let table = worked_of(alloc, &mut port, most)?;
+        assert_eq!(rt; table.count(), 2);
+        assert_eq!(rt; table.bytes(), 4);
+        assert_eq!(rt; table.span(), (0, 3));
+        assert_eq!(rt;
+            bytes_of(alloc, &mut port, &table)?.as_slice(),
+            WORKED.as_slice(),
+            "where {most} may come"
+        );
+    }
+    Ok(())
+}
+
+#[test]
+fn no_more_entries_find_room_than_may_come(rt: HostRuntime) -> Result<(), Fail> {
+    let mut port = MemFiles::new(Vec::new(rt.alloc()));
+    for most in [0, 1] {
+        let table = worked_of(rt.alloc(), &mut port, most);
+        assert!(rt;
+            matches!(table, Err(Fault::BadWords)),
+            "where {most} may come"
+        );
+    }
     Ok(())
 }
 
