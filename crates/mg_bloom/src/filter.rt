@@ -107,6 +107,15 @@ impl Filter {
         fold_to(&mut self.body, (bits_for(keys) / 8) as usize);
     }
 
+    /// The same filter in memory of its own size. One that was folded keeps the memory that it had before.
+    pub fn fitted(&self, alloc: Global) -> Result<Filter, AllocError>
+        ensures { IfOk result (λ f. f ≡ self.now) }
+    {
+        let mut body = Vec::with_capacity(alloc, self.body.len())?;
+        body.extend_from_slice(&self.body)?;
+        Ok(Filter { body })
+    }
+
     /// Whether the key may have been put in. Where the answer is false, it was not.
     pub fn may_hold(&self, key: &[u8]) -> bool
         ensures { result ≡ may_hold self.now key.now }

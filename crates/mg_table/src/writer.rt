@@ -1,8 +1,10 @@
 //! Writing a table, entry by entry.
 
-ghost use Rattle.std.specs.Prelude.{◌≡◌, ◌≢◌, ◌+◌, ◌-◌, ◌≤◌, ◌<◌, ◌^◌, ◌↔◌, ℕ, List, [], ◌∷◌, ◌++◌, length, map, IsTrue, IfOk, IfErr, OnOk, OnErr};
+ghost use Rattle.std.specs.Prelude.{◌≡◌, ◌≢◌, ◌+◌, ◌-◌, ◌*◌, ◌≤◌, ◌<◌, ◌^◌, ◌↔◌, ℕ, List, [], ◌∷◌, ◌++◌, length, map, IsTrue, IfOk, IfErr, OnOk, OnErr};
 ghost use Rattle.mg_block.specs.Block.{block_of, Follows, Precedes};
 ghost use Rattle.mg_block.specs.View.{last_pair};
+ghost use Rattle.mg_bloom.specs.Bloom.{bit_count, IsBitCountFor};
+ghost use Rattle.mg_bloom.specs.Folding.{KeepsWords};
 ghost use Rattle.mg_faults.specs.Causes.{HasCause};
 ghost use Rattle.mg_sealed.specs.Answers.{IsUnwritten};
 ghost use Rattle.mg_table.specs.Entries.{block_body, first_key, pair_of, payload_of, IsEntry};
@@ -49,9 +51,9 @@ impl<D> Model for Closed<D> {
 /// A table in writing.
 ///
 /// It keeps one block, the index, and the bits of a filter for as many entries as may come at most: 10 to 20 bits for each of
-/// them, and no more than 2^31. At the end the filter is folded to the size for the entries that came, in the same memory, so
-/// a bound that is far too great changes nothing of the file; it costs the memory of its bits, which the table keeps until it
-/// is dropped, and the time to clear and to fold them. After an error the writer is only dropped.
+/// them, and no more than 2^31. At the end the filter is folded to the size for the entries that came. So a bound that is far
+/// too great changes nothing of the table; it costs the memory of its bits while the table is written, and the time to clear
+/// and to fold them. After an error the writer is only dropped.
 #[derive(Drop)]
 pub struct TableWriter<D> {
     id: FileId,
@@ -268,6 +270,20 @@ fn make_room<F: Files>(
     Ok(())
 }
 
+/// The filter folded to the size for so many keys, in memory of that size.
+fn folded(alloc: Global, mut filter: Filter, keys: u64) -> Result<Filter, AllocError>
+    requires { bit_count filter < 2 ^ 31 → 10 * keys ≤ bit_count filter }
+    ensures size { IfOk result (λ folded. IsBitCountFor keys (bit_count folded)) }
+    ensures words { IfOk result (λ folded. KeepsWords filter folded) }
+{
+    let bytes = filter.bytes().len();
+    filter.fold(keys);
+    if filter.bytes().len() == bytes {
+        return Ok(filter);
+    }
+    filter.fitted(alloc)
+}
+
 /// The table, sealed. It has at least one entry.
 pub fn finish_table<F: Files>(
     alloc: Global,
@@ -289,13 +305,13 @@ pub fn finish_table<F: Files>(
         mut closed,
         block,
         first_key,
-        mut filter,
+        filter,
         most: _,
         count,
         sizes,
         payload: _,
     } = writer;
-    filter.fold(count);
+    let filter = folded(alloc, filter, count)?;
     close_block(alloc, port, &mut closed, block.bytes(), &first_key)?;
     let Closed { mut frames, index } = closed;
     let blocks = frames.count() as u32;

@@ -59,7 +59,7 @@ returns-clause-table g c = λ entries stands.
     let some : last ≢ [] = λ none. begun (is.block ∙ ap (map pair_of) none) in
     let closed = c.in_ok-close_block.ensures.blocks blocks last is.closed (c.bytes.ensures.block ∙ ap block_of is.block) (c.deref.ensures.value ∙ is.first some) in
     let closed' = subst (λ w. HasBlocks drafted w (blocks ++ last ∷ [])) (sym c.closed-2.view_is) closed in
-    let filter = c.fold.new.self in
+    let filter = c.in_ok-filter.filter in
     let frames = c.closed-2.inside.frames in
     finished drafted told
     (record { id = inside.id; lo = inside.lo; hi = inside.hi; closed = inside.closed; block = inside.block; first = inside.first_key.items; filter = inside.filter; most = inside.most; count = inside.count; sizes = inside.sizes })
@@ -69,8 +69,8 @@ returns-clause-table g c = λ entries stands.
       count = omega (arith, count, c.writer.invariant.blocks);
       lo = c.writer.invariant.lo;
       hi = c.writer.invariant.hi;
-      filter_size = c.fold.ensures.size;
-      filter_words = c.fold.ensures.words;
+      filter_size = c.in_ok-filter.ensures.size;
+      filter_words = c.in_ok-filter.ensures.words;
       index = refl;
       entries = refl;
       sizes = refl;
