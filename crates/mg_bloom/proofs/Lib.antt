@@ -1,2 +1,3 @@
 pub mod BloomLaws
 pub mod FoldLaws
+pub mod OneFilter

@@ -10,7 +10,7 @@ use Rattle.std.specs.List.{concat, enumerate_from}
 use Rattle.mg_block.specs.Block.{block_of, items_after}
 use Rattle.mg_block.specs.View.{last_pair_after}
 use Rattle.mg_block.proofs.Spelling.{items_after-append, pair_from}
-use Rattle.mg_bloom.specs.Bloom.{bit_count, has_bit, AddsWords, IsBitCountFor}
+use Rattle.mg_bloom.proofs.OneFilter.{one_filter}
 use Rattle.mg_frame.specs.BigEndian.{AreBytes, big_endian}
 use Rattle.mg_frame.specs.Frame.{covered, digest, frame}
 use Rattle.mg_frame.specs.Frames.{frames, numbered_frames}
@@ -59,65 +59,10 @@ bytes_in_filter lo hi blocks filter small =
 
 -- ---- a filter
 
-twice : (i j : ℕ) → 2 ^ i < 2 ^ j → 2 ^ i * 2 ≤ 2 ^ j
-twice i j less = elim (cases_lt i j) [
-  | inl below ↦ omega (arith, pow-suc 2 i, pow-le-pow_right {n = 2} (omega arith) {i = suc i} {j = j} (omega arith))
-  | inr above ↦ absurd (omega (arith, less, pow-le-pow_right {n = 2} (omega arith) {i = j} {j = i} above))
-]
-
-not_fewer : (keys bits more : ℕ) → IsBitCountFor keys bits → IsBitCountFor keys more → bits < more → ⊥
-not_fewer keys bits more is is' less =
-    let doubled : bits * 2 ≤ more = omega (arith, is.power.1, is'.power.1, twice is.power.0 is'.power.0 (omega (arith, is.power.1, is'.power.1, less))) in
-    let least = is.at_least in
-    let most = is'.at_most in
-    omega (arith, doubled, is.enough (omega (arith, doubled, least, most)), is'.no_more (omega (arith, doubled, least)))
-
--- so many keys have a filter of one size
-same_size : (keys bits other : ℕ) → IsBitCountFor keys bits → IsBitCountFor keys other → bits ≡ other
-same_size keys bits other is is' = elim (cases_lt bits other) [
-  | inl less ↦ absurd (not_fewer keys bits other is is' less)
-  | inr least ↦ elim (cases_lt other bits) [
-    | inl less ↦ absurd (not_fewer keys other bits is' is less)
-    | inr least' ↦ omega arith
-  ]
-]
-
-bit_in_byte : (body : List ℕ) (k i : ℕ) → i < 8 → has_bit body (8 * k + i) ≡ eqb (bit_at (get_or body k 0) i) 1
-unfolding has_bit
-bit_in_byte body k i low =
-    let byte : (8 * k + i) / 8 ≡ k = omega arith in
-    let bit : (8 * k + i) % 8 ≡ i = omega arith in
-    rw (byte, bit) refl
-
-same_bit : (a b : ℕ) → a < 2 → b < 2 → eqb a 1 ≡ eqb b 1 → a ≡ b
-same_bit a b small small' same = elim (cases_eq a 1) [
-  | inl one ↦ one ∙ sym (eqb-true b 1 (sym same ∙ eq-eqb a 1 one))
-  | inr none ↦ elim (cases_eq b 1) [
-    | inl one ↦ absurd (none (eqb-true a 1 (same ∙ eq-eqb b 1 one)))
-    | inr none' ↦ omega arith
-  ]
-]
-
--- bytes with the same bits are the same
-same_bytes : (body other : List ℕ) → AreBytes body → AreBytes other → length body ≡ length other → ((p : ℕ) → p < bit_count body → has_bit body p ≡ has_bit other p) → body ≡ other
-unfolding AreBytes
-same_bytes body other small small' len bits = same_number_lists body other len (λ k within.
-    let byte = get_or body k 0 in
-    let byte' = get_or other k 0 in
-    same_from_bits_below 8 byte byte' (small k 0 within) (small' k 0 (omega (arith, len, within))) (λ i low.
-    same_bit (bit_at byte i) (bit_at byte' i) (bit_at-lt byte i) (bit_at-lt byte' i)
-    (sym (bit_in_byte body k i low) ∙ bits (8 * k + i) (omega (arith, within, low)) ∙ bit_in_byte other k i low)))
-
 -- keys have one filter
 same_filter : (hashed : List (List ℕ)) (filter other : List ℕ) → AreBytes filter → AreBytes other → IsFilterOf hashed filter → IsFilterOf hashed other → filter ≡ other
-same_filter hashed filter other small small' is is' =
-    let len : length filter ≡ length other = omega (arith, same_size (length hashed) (bit_count filter) (bit_count other) is.size is'.size) in
-    let empty : ℕ → List ℕ = λ n. replicate n 0 in
-    let others : AddsWords (empty (length filter)) other (concat hashed) = subst (λ n. AddsWords (empty n) other (concat hashed)) (sym len) is'.bits in
-    let long = length-replicate {A = ℕ} (length filter) 0 in
-    same_bytes filter other small small' len (λ p within.
-    let within' : p < bit_count (empty (length filter)) = omega (arith, within, long) in
-    is.bits.bits p within' ∙ sym (others.bits p within'))
+unfolding AreBytes
+same_filter hashed filter other small small' is is' = one_filter (length hashed) (concat hashed) filter other small small' is.size is'.size is.bits is'.bits
 
 -- ---- a table
 
