@@ -1,15 +1,13 @@
 -- What is known of a file where its port tells that it is a table.
-use Rattle.std.proofs.Common.{◌≡◌, ℕ, ◌+◌, ◌≤◌, cond, eqb, List, length, refl, sym, ap, ◌∙◌, subst, inl, inr, arith, Option, Some, None, IfSome, Result, Ok, Err, MatchResult}
-use Rattle.std.proofs.lemmas.Bool.{le-ltb, eq-eqb, ne_eqb, cases_eq}
-use Rattle.std.specs.Prelude.{nat_lt}
+use Rattle.std.proofs.Common.{◌≡◌, ℕ, ◌+◌, ◌≤◌, List, length, refl, sym, ap, ◌∙◌, subst, arith, Option, Some, None, IfSome, Result, Ok, Err, MatchResult}
 use Rattle.mg_frame.specs.Frames.{numbered_frames}
 use Rattle.mg_model.specs.declared.faults.Fault.{Fault}
-use Rattle.mg_model.specs.declared.faults.Fault.TheVariants.{Damaged}
 use Rattle.mg_model.specs.declared.faults.FileId.{FileId}
 use Rattle.mg_sealed.specs.Answers.{Answers, IsOutside}
 use Rattle.mg_sealed.specs.Foot.{foot_body}
 use Rattle.mg_sealed.specs.Reading.{frame_body, opened}
 use Rattle.mg_sealed.specs.declared.reading.SealedFile.{SealedFile}
+use Rattle.mg_sealed.proofs.AnswerLaws.{opened-ok}
 use Rattle.mg_table.specs.Foot.{foot_bytes}
 use Rattle.mg_table.specs.Index.{index_bytes, places_from}
 use Rattle.mg_table.specs.Loading.{Knows}
@@ -33,56 +31,7 @@ pub knows_both : (told : Option (List ℕ)) (len : ℕ) (C D : Of) → Knows tol
 knows_both None len C D one other = tt
 knows_both (Some bytes) len C D one other = λ lo hi entries is same. (one lo hi entries is same, other lo hi entries is same)
 
--- ---- answers
-
--- an error beside an answer that is no error comes from outside
-pub refused : {V : Type 0} (value : V) (fault : Fault) → Answers (Ok value) (Err fault) → IsOutside fault
-refused value fault (inl outside) = outside
-refused value fault (inr same) = absurd cc
-
-pub answered : {V : Type 0} (value other : V) → Answers (Ok value) (Ok other) → other ≡ value
-answered value other same = cc
-
--- an error that comes from outside stands beside each answer
-pub outside : {V : Type 0} (value : V) (result : Result V Fault) (fault : Fault) → result ≡ Err fault → IsOutside fault → Answers (Ok value) result
-outside {V} value result fault is from = subst (λ (r : Result V Fault). Answers (Ok value) r) (sym is) (inl from)
-
--- a value beside the answer is that value
-pub answers : {V : Type 0} (value : V) (result : Result V Fault) → result ≡ Ok value → Answers (Ok value) result
-answers {V} value result is = subst (λ (r : Result V Fault). Answers (Ok value) r) (sym is) refl
-
-pub err_not_ok : {V : Type 0} (fault : Fault) (value : V) → let r : Result V Fault = Err fault in r ≡ Ok value → ⊥
-err_not_ok fault value is = cc
-
 -- ---- what is read
-
--- a file that is long enough is opened
-opened-ok : {S : Type 0} (id : FileId) (file : S) (len least : ℕ) (bytes : List ℕ) → length bytes ≡ len → least ≤ length bytes
-    → opened id file len least bytes ≡ Ok (record { id = id; file = file; len = len })
-unfolding opened
-opened-ok {S} id file len least bytes same enough =
-    let whole : SealedFile S = record { id = id; file = file; len = len } in
-    let short : Result (SealedFile S) Fault = Err (Damaged id 0 least (length bytes)) in
-    let other : Result (SealedFile S) Fault = Err (Damaged id 0 len (length bytes)) in
-    ap (λ b. cond b (cond (nat_lt (length bytes) least) short (Ok whole)) other) (eq-eqb (length bytes) len same)
-    ∙ ap (λ b. cond b short (Ok whole)) (le-ltb (length bytes) least enough)
-
--- a file that was opened has the length that is kept of it
-pub opened-len : {S : Type 0} (told : Option (List ℕ)) (id : FileId) (file : S) (len least : ℕ) (found : SealedFile S)
-    → IfSome told (λ bytes. Answers (opened id file len least bytes) (Ok found)) → IfSome told (λ bytes. length bytes ≡ len)
-unfolding opened
-opened-len None id file len least found known = tt
-opened-len {S} (Some bytes) id file len least found known = elim (cases_eq (length bytes) len) [
-  | inl same ↦ same
-  | inr differs ↦
-      let whole : SealedFile S = record { id = id; file = file; len = len } in
-      let short : Result (SealedFile S) Fault = Err (Damaged id 0 least (length bytes)) in
-      let other : Result (SealedFile S) Fault = Err (Damaged id 0 len (length bytes)) in
-      let is : cond (eqb (length bytes) len) (cond (nat_lt (length bytes) least) short (Ok whole)) other ≡ other =
-      ap (λ b. cond b (cond (nat_lt (length bytes) least) short (Ok whole)) other) (ne_eqb (length bytes) len differs) in
-      let bad : other ≡ Ok found = sym is ∙ known in
-      absurd cc
-]
 
 pub knows_opened : {S : Type 0} (told : Option (List ℕ)) (id : FileId) (file : S) (len : ℕ) (result : Result (SealedFile S) Fault)
     → IfSome told (λ bytes. Answers (opened id file len 73 bytes) result)

@@ -1,5 +1,4 @@
 pub mod EntryLaws
-pub mod FieldLaws
 pub mod FilledLaws
 pub mod FilterLaws
 pub mod FindingLaws

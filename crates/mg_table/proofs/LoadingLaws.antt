@@ -1,8 +1,8 @@
 -- The foot, the index and the filter of a table are those that a loader asks for.
-use Rattle.std.proofs.Common.{◌≡◌, ◌≢◌, ℕ, ◌+◌, ◌-◌, ◌*◌, ◌/◌, ◌<◌, ◌≤◌, ◌^◌, ◌⊎◌, suc, List, [], ◌∷◌, ◌++◌, length, map, take, drop, refl, sym, ap, ◌∙◌, subst, inl, inr, arith, append_assoc, Ok, Option}
+use Rattle.std.proofs.Common.{◌≡◌, ◌≢◌, ℕ, ◌+◌, ◌-◌, ◌*◌, ◌/◌, ◌<◌, ◌≤◌, ◌^◌, ◌⊎◌, suc, List, [], ◌∷◌, ◌++◌, length, map, take, drop, refl, sym, ap, ◌∙◌, subst, inl, inr, arith, append_assoc, Ok}
 use Rattle.std.proofs.Math.Nat.{mod-eq_of_lt}
 use Rattle.std.proofs.lemmas.List.{length-append, length-map, drop_at, take_all}
-use Rattle.std.proofs.lemmas.List.Elements.{All-cons, All-head, All-nil, All-tail}
+use Rattle.std.proofs.lemmas.List.Elements.{All-head, All-tail}
 use Rattle.std.proofs.lemmas.List.Sums.{sum_by-cons}
 use Rattle.std.specs.List.{All}
 use Rattle.mg_block.specs.Block.{Precedes, RiseAfter}
@@ -25,15 +25,14 @@ use Rattle.mg_sealed.proofs.WrittenLaws.{written_frame_is_read}
 use Rattle.mg_table.specs.Entries.{block_body, pair_of, IsEntry}
 use Rattle.mg_table.specs.Filters.{IsFilterOf}
 use Rattle.mg_table.specs.Foot.{counts_bytes, foot_bytes, span_bytes, IsFoot}
-use Rattle.mg_table.specs.Index.{frame_length, index_bytes, places_from, AreNear, IsIndexFrom, IsPlace}
-use Rattle.mg_table.specs.Table.{foot_of, hashed_keys, sizes_of, table_bodies, IsTableOf, Stands}
+use Rattle.mg_table.specs.Index.{frame_length, index_bytes, places_from, IsIndexFrom}
+use Rattle.mg_table.specs.Table.{foot_of, hashed_keys, sizes_of, table_bodies, IsTableOf}
 use Rattle.mg_table.specs.declared.entry.Entry.{Entry}
 use Rattle.mg_table.specs.declared.foot.Foot.{Foot}
-use Rattle.mg_table.specs.declared.index.BlockPlace.{BlockPlace}
-use Rattle.mg_table.specs.declared.table.Table.{Table}
 use Rattle.mg_table.proofs.EntryLaws.{length-payload_of, one-fits}
 use Rattle.mg_table.proofs.FinishLaws.{length-foot_bytes}
 use Rattle.mg_table.proofs.IndexLaws.{length-frames, length-index_bytes, total}
+use Rattle.mg_table.proofs.PlaceLaws.{places_are}
 
 -- ---- entries that rise
 
@@ -140,15 +139,6 @@ index_is key previous at ((x ∷ b) ∷ blocks) up filled rise room =
       subst (λ end. IsIndexFrom x.key later (places_from later blocks) end) ends rest,
     )
 
-pub places_fit : (key : List ℕ) (at : ℕ) (places : List BlockPlace) (end : ℕ) → IsIndexFrom key at places end → All IsPlace places
-places_fit key at [] end is = All-nil IsPlace
-places_fit key at (place ∷ places) end is = All-cons IsPlace place places (record { key = is.1 }) (places_fit place.key (at + place.len) places end is.5)
-
-pub places_near : (key : List ℕ) (at : ℕ) (places : List BlockPlace) (end : ℕ) → IsIndexFrom key at places end → AreNear places
-places_near key at [] end is = All-nil (λ (p : BlockPlace). p.at < 2 ^ 62)
-places_near key at (place ∷ places) end is =
-    All-cons (λ (p : BlockPlace). p.at < 2 ^ 62) place places (omega (arith, is.2, is.3)) (places_near place.key (at + place.len) places end is.5)
-
 -- ---- a table
 
 rises : (lo hi : ℕ) (entries : List Entry) (blocks : List (List Entry)) (filter : List ℕ) → IsTableOf lo hi entries blocks filter → RiseAfter [] (map pair_of (items_of blocks))
@@ -169,7 +159,7 @@ index_small : (lo hi : ℕ) (entries : List Entry) (blocks : List (List Entry)) 
 index_small lo hi entries blocks filter parts =
     omega (
       arith,
-      length-index_bytes (places_from 0 blocks) (places_fit [] 0 (places_from 0 blocks) _ (index_of_table lo hi entries blocks filter parts)),
+      length-index_bytes (places_from 0 blocks) (places_are [] 0 (places_from 0 blocks) _ (index_of_table lo hi entries blocks filter parts)),
       length-places_from 0 blocks,
     )
 
@@ -308,10 +298,3 @@ file_ends lo hi blocks filter =
       length-frame (length before) filter,
       len_before_filter lo hi blocks filter,
     )
-
--- each place of a table's index is below 2 ^ 62
-pub places_in_range : {S : Type 0} (told : S → Option (List ℕ)) (table : Table S) (entries : List Entry) → Stands told table entries → AreNear table.index
-places_in_range told table entries stands =
-    let lo = table.foot.lo in
-    let hi = table.foot.hi in
-    subst AreNear (sym stands.index) (places_near [] 0 (places_from 0 stands.blocks) _ (index_of_table lo hi entries stands.blocks table.filter stands.parts))

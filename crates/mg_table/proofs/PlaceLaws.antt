@@ -1,34 +1,49 @@
--- The items of an index, from the front of its body on.
-use Rattle.std.proofs.Common.{◌≡◌, ℕ, ◌+◌, ◌<◌, ◌≤◌, ◌^◌, cond, List, [], ◌∷◌, ◌++◌, length, refl, sym, ap, ◌∙◌, subst, inl, inr, arith, append_assoc, Result, Ok, Err}
+-- The fields of a foot, and the items of an index, from the front of a body on.
+use Rattle.std.proofs.Common.{◌≡◌, ℕ, ◌+◌, ◌<◌, ◌≤◌, ◌^◌, List, [], ◌∷◌, ◌++◌, length, refl, sym, ap, ◌∙◌, subst, inl, inr, arith, append_assoc}
 use Rattle.std.proofs.lemmas.List.{append-nil, length-append}
-use Rattle.std.proofs.lemmas.List.Elements.{All-append, All-cons, All-nil}
-use Rattle.std.proofs.lemmas.Bool.{lt-ltb, le-ltb, cases_lt}
+use Rattle.std.proofs.lemmas.List.Elements.{All-cons, All-nil}
+use Rattle.std.specs.List.{All}
 use Rattle.mg_model.specs.declared.faults.Fault.{Fault}
-use Rattle.mg_model.specs.declared.faults.Fault.TheVariants.{Damaged}
 use Rattle.mg_model.specs.declared.faults.FileId.{FileId}
-use Rattle.mg_sealed.specs.Reading.{checked_number}
-use Rattle.mg_table.specs.Foot.{counts_bytes, foot_bytes, places_bytes, span_bytes}
-use Rattle.mg_table.specs.Index.{index_bytes, place_bytes, AreNear, FitsFields, IsIndexFrom}
+use Rattle.mg_sealed.specs.Numbers.{AreKept, IsTooGreat}
+use Rattle.mg_table.specs.Foot.{counts_bytes, foot_bytes, foot_numbers, places_bytes, span_bytes, IsFoot, IsInFields}
+use Rattle.mg_table.specs.Index.{index_bytes, key_after, place_bytes, FitsFields, IsIndexFrom, IsItemAt, IsItemUnfit, IsPlace}
 use Rattle.mg_table.specs.declared.foot.Foot.{Foot}
 use Rattle.mg_table.specs.declared.index.BlockPlace.{BlockPlace}
-use Rattle.mg_table.proofs.IndexLaws.{length-place_bytes}
+use Rattle.mg_table.proofs.IndexLaws.{index_bytes-push, length-place_bytes}
 
-checked-ok : (id : FileId) (at n : ℕ) → n < 2 ^ 62 → checked_number id at n ≡ Ok n
-checked-ok id at n near = ap (λ b. let r : Result ℕ Fault = cond b (Ok n) (Err (Damaged id at n (2 ^ 62))) in r) (lt-ltb n (2 ^ 62) near)
+-- a single number that is too great
+great-first : (before after : List ℕ) (n number : ℕ) → n ∷ [] ≡ before ++ number ∷ after → 2 ^ 62 ≤ number → 2 ^ 62 ≤ n
+great-first [] after n number is great = let same : n ≡ number = cc in omega (arith, same, great)
+great-first (x ∷ before) after n number is great = absurd (omega (arith, ap length is, length-append before (number ∷ after)))
 
-checked-err : (id : FileId) (at n : ℕ) → 2 ^ 62 ≤ n → checked_number id at n ≡ Err (Damaged id at n (2 ^ 62))
-checked-err id at n far = ap (λ b. let r : Result ℕ Fault = cond b (Ok n) (Err (Damaged id at n (2 ^ 62))) in r) (le-ltb n (2 ^ 62) far)
+pub one_great : (id : FileId) (at n : ℕ) (fault : Fault) → IsTooGreat id at (n ∷ []) fault → 2 ^ 62 ≤ n
+one_great id at n fault is = great-first is.before is.after n is.number is.numbers_are is.great
 
--- a number in range is not refused
-pub not_refused : (id : FileId) (at n : ℕ) (fault : Fault) → n < 2 ^ 62 → Err fault ≡ checked_number id at n → ⊥
-not_refused id at n fault near is = let e : Err fault ≡ Ok n = is ∙ checked-ok id at n near in cc
+-- numbers that are kept are not too great
+kept_not_great : (numbers before after : List ℕ) (number : ℕ) → AreKept numbers → numbers ≡ before ++ number ∷ after → 2 ^ 62 ≤ number → ⊥
+kept_not_great [] [] after number kept is great = absurd cc
+kept_not_great [] (x ∷ before) after number kept is great = absurd cc
+kept_not_great (n ∷ numbers) [] after number kept is great = let same : n ≡ number = cc in omega (arith, kept.0, same, great)
+kept_not_great (n ∷ numbers) (x ∷ before) after number kept is great = let rest : numbers ≡ before ++ number ∷ after = cc in kept_not_great numbers before after number kept.1 rest great
 
--- a number that is not refused is in range
-pub is_near : (id : FileId) (at n m : ℕ) → Ok m ≡ checked_number id at n → n < 2 ^ 62
-is_near id at n m is = elim (cases_lt n (2 ^ 62)) [
-  | inl near ↦ near
-  | inr far ↦ (let e : Ok m ≡ Err (Damaged id at n (2 ^ 62)) = is ∙ checked-err id at n far in cc)
-]
+pub not_too_great : (id : FileId) (at : ℕ) (numbers : List ℕ) (fault : Fault) → AreKept numbers → IsTooGreat id at numbers fault → ⊥
+not_too_great id at numbers fault kept is = kept_not_great numbers is.before is.after is.number kept is.numbers_are is.great
+
+-- a foot of a table fits its fields, and its numbers are kept
+pub foot_fits : (foot : Foot) → IsFoot foot → IsInFields foot
+foot_fits foot is = record {
+  entries = omega (arith, is.entries);
+  sizes = omega (arith, is.sizes);
+  lo = omega (arith, is.lo);
+  hi = omega (arith, is.hi);
+  index_at = omega (arith, is.index_at);
+  filter_at = omega (arith, is.filter_at);
+  blocks = is.blocks;
+}
+
+pub foot_kept : (foot : Foot) → IsFoot foot → AreKept (foot_numbers foot)
+foot_kept foot is = (is.entries, (is.sizes, (is.lo, (is.hi, (is.index_at, (is.filter_at, tt))))))
 
 -- the fields of a foot, from left to right
 pub foot_parts : (foot : Foot) → foot_bytes foot ≡ counts_bytes foot ++ (span_bytes foot ++ (places_bytes foot ++ []))
@@ -56,10 +71,6 @@ place_from key at len = record { key = key; at = at; len = len }
 pub place_is : (place other : BlockPlace) → place.key ≡ other.key → place.at ≡ other.at → place.len ≡ other.len → place ≡ other
 unfolding place_from
 place_is place other key at len = let e : place_from place.key place.at place.len ≡ place_from other.key other.at other.len = cc in e
-
-pub near-push : (places : List BlockPlace) (place : BlockPlace) → AreNear places → place.at < 2 ^ 62 → AreNear (places ++ place ∷ [])
-near-push places place near at =
-    All-append (λ (p : BlockPlace). p.at < 2 ^ 62) places (place ∷ []) near (All-cons (λ (p : BlockPlace). p.at < 2 ^ 62) place [] at (All-nil (λ (p : BlockPlace). p.at < 2 ^ 62)))
 
 -- what an item of an index spells is not nothing
 pub some_place : (place : BlockPlace) (behind : List ℕ) → length behind < length (place_bytes place ++ behind)
@@ -94,3 +105,41 @@ index_more key next_key p ps at end next same is index =
 pub none_left : (xs : List ℕ) → length xs ≡ 0 → xs ≡ []
 none_left [] none = refl
 none_left (x ∷ xs) none = absurd (omega (arith, none))
+
+-- ---- items that are judged
+
+unfit_item : (id : FileId) (at : ℕ) (key : List ℕ) (place end : ℕ) (p : BlockPlace) (ps : List BlockPlace) (fault : Fault) → IsIndexFrom key place (p ∷ ps) end
+    → IsItemUnfit id at key place p fault → ⊥
+unfit_item id at key place end p ps fault is (inl apart) = apart.0 (is.0, is.1)
+unfit_item id at key place end p ps fault is (inr (inl great)) = absurd (omega (arith, one_great id at p.at fault great.1, is.2, is.3))
+unfit_item id at key place end p ps fault is (inr (inr apart)) = apart.2 is.2
+
+-- nothing is wrong with an item of an index
+pub right_item : (id : FileId) (at : ℕ) (key : List ℕ) (place end : ℕ) (p other : BlockPlace) (ps : List BlockPlace) (fault : Fault) → other ≡ p → IsIndexFrom key place (p ∷ ps) end
+    → IsItemUnfit id at key place other fault → ⊥
+right_item id at key place end p other ps fault same is unfit =
+    unfit_item id at key place end p ps fault is (subst (λ (q : BlockPlace). IsItemUnfit id at key place q fault) same unfit)
+
+-- an index with one item more
+pub index_push : (key : List ℕ) (at : ℕ) (places : List BlockPlace) (end : ℕ) (place : BlockPlace) (next : ℕ) → IsIndexFrom key at places end → IsItemAt (key_after key places) end place
+    → place.len < 2 ^ 32 → next ≡ place.at + place.len → IsIndexFrom key at (places ++ place ∷ []) next
+index_push key at [] end place next is item fits here = (item.0.0, item.0.1, omega (arith, is, item.1), omega (arith, is, item.2), fits, omega (arith, is, item.1, here))
+index_push key at (p ∷ places) end place next is item fits here =
+    (is.0, is.1, is.2, is.3, is.4, index_push p.key (at + p.len) places end place next is.5 item fits here)
+
+pub key_after-push : (key : List ℕ) (places : List BlockPlace) (place : BlockPlace) → key_after key (places ++ place ∷ []) ≡ place.key
+key_after-push key [] place = refl
+key_after-push key (p ∷ places) place = key_after-push p.key places place
+
+-- the body of an index with one item more
+pub body_push : (body rest behind : List ℕ) (places new : List BlockPlace) (place : BlockPlace) → body ≡ index_bytes places ++ rest → rest ≡ place_bytes place ++ behind
+    → new ≡ places ++ place ∷ [] → body ≡ index_bytes new ++ behind
+body_push body rest behind places new place is begins put =
+    is ∙ ap (λ xs. index_bytes places ++ xs) begins ∙ sym (append_assoc (index_bytes places) (place_bytes place) behind)
+    ∙ ap (λ xs. xs ++ behind) (sym (ap index_bytes put ∙ index_bytes-push places place))
+
+-- each item of an index is a place
+pub places_are : (key : List ℕ) (at : ℕ) (places : List BlockPlace) (end : ℕ) → IsIndexFrom key at places end → All IsPlace places
+places_are key at [] end is = All-nil IsPlace
+places_are key at (place ∷ places) end is =
+    All-cons IsPlace place places (record { key = is.1; at = omega (arith, is.2, is.3) }) (places_are place.key (at + place.len) places end is.5)

@@ -1,6 +1,6 @@
 -- What is read of a table's blocks.
-use Rattle.std.proofs.Common.{◌≡◌, ℕ, zero, suc, ◌+◌, ◌*◌, ◌<◌, ◌≤◌, ◌^◌, inl, inr, List, [], ◌∷◌, ◌++◌, length, get_or, take, drop, map, refl, sym, ap, subst, ◌∙◌, arith, append_assoc, Option, Some, None, IfSome, Result, Ok, Err, MatchResult}
-use Rattle.std.proofs.lemmas.Bool.{lt-ltb, eq-eqb}
+use Rattle.std.proofs.Common.{◌≡◌, ℕ, zero, suc, ◌+◌, ◌<◌, ◌≤◌, ◌^◌, inl, inr, List, [], ◌∷◌, ◌++◌, length, get_or, take, drop, map, refl, sym, ap, subst, ◌∙◌, arith, append_assoc, Option, Some, None, IfSome, Result, Ok, Err, MatchResult}
+use Rattle.std.proofs.lemmas.Bool.{eq-eqb}
 use Rattle.std.proofs.lemmas.List.{map-append, take-append-drop, take_more, length-map, length-take-le}
 use Rattle.std.proofs.lemmas.List.Elements.{All-cons, All-head, All-nil, All-tail}
 use Rattle.std.specs.List.{All}
@@ -11,13 +11,14 @@ use Rattle.mg_model.specs.declared.faults.Fault.{Fault}
 use Rattle.mg_model.specs.declared.faults.Fault.TheVariants.{NoMemory}
 use Rattle.mg_model.specs.declared.faults.FileId.{FileId}
 use Rattle.mg_sealed.specs.Answers.{Answers, IsOutside}
+use Rattle.mg_sealed.specs.Blocks as file
 use Rattle.mg_sealed.specs.Filling.{Fits, AreFilled, items_of}
 use Rattle.mg_sealed.specs.Reading.{frame_body}
+use Rattle.mg_sealed.proofs.AnswerLaws.{refused}
 use Rattle.mg_sealed.proofs.WrittenLaws.{written_frame_is_read}
 use Rattle.mg_table.specs.Entries.{block_body, pair_of, AreEntries, IsEntry}
 use Rattle.mg_table.specs.Foot.{foot_bytes}
 use Rattle.mg_table.specs.Index.{frame_length, index_bytes, places_from}
-use Rattle.mg_table.specs.Reading.{block_at}
 use Rattle.mg_table.specs.Table.{foot_of, table_bodies, Stands}
 use Rattle.mg_table.specs.declared.entry.Entry.{Entry}
 use Rattle.mg_table.specs.declared.index.BlockPlace.{BlockPlace}
@@ -78,20 +79,6 @@ block-small (entry ∷ (next ∷ block)) are fits = elim fits.small [
   | inr one ↦ absurd (omega (arith, one))
 ]
 
-total-bound : (blocks : List (List Entry)) → AreEntries (items_of blocks) → AreFilled block_body blocks → total blocks ≤ 4116 * length blocks
-total-bound [] are filled = omega arith
-total-bound (block ∷ blocks) are filled =
-    let here : AreEntries block = block-entries (block ∷ blocks) 0 [] are (omega arith) in
-    let rest : AreEntries (items_of blocks) =
-    record { rising = RiseAfter-behind [] block (items_of blocks) are.rising; each = All-behind IsEntry block (items_of blocks) are.each } in
-    omega (arith, block-small block here filled.0, total-bound blocks rest filled.2)
-
-total-front : (blocks : List (List Entry)) (k : ℕ) → total (take k blocks) ≤ total blocks
-total-front [] zero = omega arith
-total-front [] (suc k) = omega arith
-total-front (block ∷ blocks) zero = omega arith
-total-front (block ∷ blocks) (suc k) = omega (arith, total-front blocks k)
-
 pub length-places_from : (at : ℕ) (blocks : List (List Entry)) → length (places_from at blocks) ≡ length blocks
 length-places_from at [] = refl
 length-places_from at (block ∷ blocks) = ap suc (length-places_from (at + frame_length block) blocks)
@@ -130,11 +117,15 @@ block-frame id blocks others k d within few small =
     ∙ ap (λ n. frame_body id (numbered_frames (before ++ body ∷ after)) (length (numbered_frames before)) n) (sym count)
     ∙ read
 
+-- what is read of the block whose place is this
+abbrev pub read_at : {S : Type 0} → Table S → List ℕ → BlockPlace → ℕ → Result (List ℕ) Fault
+read_at table bytes place k = file.block_body table.file.id bytes place.at place.len k
+
 -- each block of a table is read at its place
 pub block-read : {S : Type 0} (told : S → Option (List ℕ)) (table : Table S) (entries : List Entry) (stands : Stands told table entries) (bytes : List ℕ)
     → told table.file.file ≡ Some bytes → (place : BlockPlace) (k : ℕ) → k < length table.index → place ≡ get_or table.index k place
-    → (d : List Entry) → block_at table.file.id bytes place k ≡ Ok (block_body (get_or stands.blocks k d))
-unfolding block_at
+    → (d : List Entry) → read_at table bytes place k ≡ Ok (block_body (get_or stands.blocks k d))
+unfolding file.block_body
 block-read {S} told table entries stands bytes tells place k within is d =
     let blocks = stands.blocks in
     let parts = stands.parts in
@@ -144,14 +135,13 @@ block-read {S} told table entries stands bytes tells place k within is d =
     let small = block-small block (block-entries blocks k d are inside) (filled-at block_body blocks k d parts.filled inside) in
     let there : place ≡ place_behind (total (take k blocks)) block =
     is ∙ ap (λ ps. get_or ps k place) stands.index ∙ place-at 0 blocks k place d inside ∙ ap (λ n. place_behind n block) (omega arith) in
-    let near : total (take k blocks) < 2 ^ 62 = omega (arith, total-front blocks k, total-bound blocks are parts.filled, parts.few) in
     let file = stands.file in
     let written : bytes ≡ numbered_frames (table_bodies table.foot.lo table.foot.hi blocks table.filter) =
     subst (λ o. IfSome o (λ bs. bs ≡ numbered_frames (table_bodies table.foot.lo table.foot.hi blocks table.filter))) tells file in
     let rest = index_bytes (places_from 0 blocks) ∷ table.filter ∷ foot_bytes (foot_of table.foot.lo table.foot.hi blocks table.filter) ∷ [] in
     let frame : frame_body table.file.id bytes (total (take k blocks)) k ≡ Ok (block_body block) =
     ap (λ bs. frame_body table.file.id bs (total (take k blocks)) k) written ∙ block-frame table.file.id blocks rest k d inside parts.few small in
-    rw (there, lt-ltb (total (take k blocks)) (2 ^ 62) near, frame, eq-eqb (length (block_body block) + 20) (length (block_body block) + 20) refl) refl
+    rw (there, frame, eq-eqb (length (block_body block) + 20) (length (block_body block) + 20) refl) refl
 
 pub told-length : {S : Type 0} (told : S → Option (List ℕ)) (table : Table S) (entries : List Entry) (stands : Stands told table entries) (bytes : List ℕ)
     → told table.file.file ≡ Some bytes → table.file.len ≡ length bytes
@@ -176,26 +166,22 @@ pub told-always : (told : Option (List ℕ)) (Q : List ℕ → Type 0) → ((byt
 told-always None Q always = tt
 told-always (Some bytes) Q always = always bytes refl
 
-refused : {V : Type 0} (value : V) (answer : Result V Fault) (fault : Fault) → answer ≡ Ok value → Answers answer (Err fault) → IsOutside fault
-refused value answer fault is (inl outside) = outside
-refused value answer fault is (inr same) = let e : Ok value ≡ Err fault = sym is ∙ same in absurd cc
-
 -- a block of a table is refused only from outside
 pub block-refused : {S : Type 0} (told : S → Option (List ℕ)) (table : Table S) (entries : List Entry) (stands : Stands told table entries) (bytes : List ℕ)
     → told table.file.file ≡ Some bytes → (place : BlockPlace) (k : ℕ) → k < length table.index → place ≡ get_or table.index k place → (fault : Fault)
-    → (table.file.len ≡ length bytes → Answers (block_at table.file.id bytes place k) (Err fault)) → IsOutside fault
+    → (table.file.len ≡ length bytes → Answers (read_at table bytes place k) (Err fault)) → IsOutside fault
 block-refused told table entries stands bytes tells place k within is fault known =
-    refused (block_body (get_or stands.blocks k [])) (block_at table.file.id bytes place k) fault (block-read told table entries stands bytes tells place k within is [])
+    refused (block_body (get_or stands.blocks k [])) (read_at table bytes place k) fault (block-read told table entries stands bytes tells place k within is [])
     (known (told-length told table entries stands bytes tells))
 
 -- what is read of one is the block of its entries
 pub block-answered : {S : Type 0} (told : S → Option (List ℕ)) (table : Table S) (entries : List Entry) (stands : Stands told table entries) (bytes : List ℕ)
     → told table.file.file ≡ Some bytes → (place : BlockPlace) (k : ℕ) → k < length table.index → place ≡ get_or table.index k place → (frame : List ℕ)
-    → (table.file.len ≡ length bytes → Answers (block_at table.file.id bytes place k) (Ok frame)) → (d : List Entry)
+    → (table.file.len ≡ length bytes → Answers (read_at table bytes place k) (Ok frame)) → (d : List Entry)
     → IsBlock frame (map pair_of (get_or stands.blocks k d)) × All IsEntry (get_or stands.blocks k d)
 block-answered told table entries stands bytes tells place k within is frame known d =
     let read = block-read told table entries stands bytes tells place k within is d in
-    let answer : block_at table.file.id bytes place k ≡ Ok frame = known (told-length told table entries stands bytes tells) in
+    let answer : read_at table bytes place k ≡ Ok frame = known (told-length told table entries stands bytes tells) in
     let same : frame ≡ block_body (get_or stands.blocks k d) = cc in
     let are = block-is told table entries stands k d within in
     (record { rising = are.rising; spelling = same }, are.each)
@@ -204,10 +190,3 @@ block-answered told table entries stands bytes tells place k within is frame kno
 pub answers-from : {V : Type 0} (value other : V) (result : Result V Fault) → value ≡ other → MatchResult result (λ found. found ≡ other) (λ fault. fault ≡ NoMemory) → Answers (Ok value) result
 answers-from value other (Ok found) same is = let e : value ≡ found = same ∙ sym is in cc
 answers-from value other (Err fault) same is = inl (inl is)
-
-pub outside-answer : {V : Type 0} (answer result : Result V Fault) (fault : Fault) → result ≡ Err fault → IsOutside fault → Answers answer result
-outside-answer {V} answer result fault is outside = subst (λ (r : Result V Fault). Answers answer r) (sym is) (inl outside)
-
-pub told-both : (told : Option (List ℕ)) (P Q : List ℕ → Type 0) → IfSome told P → IfSome told Q → IfSome told (λ bytes. P bytes × Q bytes)
-told-both None P Q one other = tt
-told-both (Some bytes) P Q one other = (one, other)

@@ -1,6 +1,10 @@
 -- The foot of a table.
-use Rattle.std.specs.Prelude.{ℕ, ◌<◌, ◌≤◌, ◌^◌, List, ◌++◌}
+use Rattle.std.specs.Prelude.{◌≡◌, ℕ, ◌<◌, ◌≤◌, ◌^◌, ◌⊎◌, List, [], ◌∷◌, ◌++◌}
 use Rattle.mg_frame.specs.BigEndian.{big_endian}
+use Rattle.mg_model.specs.declared.faults.Fault.{Fault}
+use Rattle.mg_model.specs.declared.faults.Fault.TheVariants.{Malformed}
+use Rattle.mg_model.specs.declared.faults.FileId.{FileId}
+use Rattle.mg_sealed.specs.Numbers.{AreKept, IsTooGreat}
 use Rattle.mg_table.specs.declared.foot.Foot.{Foot}
 
 -- the format 1, the number of entries and the sum of their sizes
@@ -40,3 +44,20 @@ pub record IsFoot (foot : Foot) : Type 0 where
   pub blocks : foot.blocks < 2 ^ 32
   pub some_entries : 1 ≤ foot.entries
   pub some_blocks : 1 ≤ foot.blocks
+
+-- the numbers of a foot that are below 2 ^ 62, in their order
+abbrev pub foot_numbers : Foot → List ℕ
+foot_numbers foot = foot.entries ∷ foot.sizes ∷ foot.lo ∷ foot.hi ∷ foot.index_at ∷ foot.filter_at ∷ []
+
+-- what is wrong with a foot at this place: first that it has no entry, then its numbers, then that it has no block
+abbrev pub IsFootRefusedAt : FileId → ℕ → Foot → Fault → Type 0
+IsFootRefusedAt id at foot fault =
+    ((foot.entries ≡ 0) × (fault ≡ Malformed id at))
+    ⊎ ((1 ≤ foot.entries) × IsTooGreat id at (foot_numbers foot) fault)
+    ⊎ ((1 ≤ foot.entries) × AreKept (foot_numbers foot) × (foot.blocks ≡ 0) × (fault ≡ Malformed id at))
+
+-- what is wrong with a body at the place of a foot: it is not that of a foot in its fields, or it is that of one of which this is wrong
+abbrev pub IsFootUnfit : FileId → ℕ → List ℕ → Fault → Type 0
+IsFootUnfit id at body fault =
+    (((foot : Foot) → IsInFields foot → body ≡ foot_bytes foot → ⊥) × (fault ≡ Malformed id at))
+    ⊎ ((foot : Foot) × IsInFields foot × (body ≡ foot_bytes foot) × IsFootRefusedAt id at foot fault)

@@ -1,14 +1,12 @@
 //! The foot: the counts of a table, and where its index and its filter stand.
 
 ghost use Rattle.std.specs.Prelude.{◌≡◌, ◌++◌, ℕ, List, OnOk, IfErr, IfOk, IfSome, IsSome, Some, Ok};
-ghost use Rattle.mg_table.specs.Foot.{counts_bytes, foot_bytes, places_bytes, span_bytes, IsFoot, IsInFields};
-ghost use Rattle.mg_table.specs.Loading.{IsUnfit};
+ghost use Rattle.mg_table.specs.Foot.{counts_bytes, foot_bytes, places_bytes, span_bytes, IsFoot, IsFootUnfit, IsInFields};
 ghost use Rattle.mg_table.specs.declared.foot.Foot.{Foot};
 
-use crate::fields::{split_u8, split_u32, split_u64};
-use mg_frame::{put_u8, put_u32, put_u64};
+use mg_frame::{put_u8, put_u32, put_u64, split_u8, split_u32, split_u64};
 use mg_model::{Fault, FileId};
-use mg_sealed::checked_number;
+use mg_sealed::check_numbers;
 use std::alloc::{AllocError, Global};
 
 /// The format of tables that is written and read here.
@@ -115,7 +113,7 @@ fn split_places(bytes: &[u8]) -> Option<((u64, u64, u32), &[u8])>
 /// The foot of this body, or none where it has another length or another format.
 #[tactic(auto, unfolding(crate::specs::Foot::foot_bytes))]
 fn split_foot(body: &[u8]) -> Option<Foot>
-    ensures split { IfSome result (λ foot. body.now ≡ foot_bytes foot) }
+    ensures split { IfSome result (λ foot. IsInFields foot × (body.now ≡ foot_bytes foot)) }
     ensures written { (foot : Foot) → IsInFields foot → body.now ≡ foot_bytes foot → result ≡ Some foot }
 {
     let ((entries, sizes), rest) = split_counts(body)?;
@@ -135,23 +133,31 @@ fn split_foot(body: &[u8]) -> Option<Foot>
     })
 }
 
-/// The foot of this body, which stands at a place of a file: one of at least one entry, whose numbers are below 2^62.
+/// The foot of this body, which stands at a place of a file. Its fields are judged from left to right: first their form, then
+/// that there is an entry, then the numbers that are below 2^62, then that there is a block.
 pub(crate) fn read_foot_body(id: FileId, at: u64, body: &[u8]) -> Result<Foot, Fault>
     ensures written { (foot : Foot) → IsFoot foot → body.now ≡ foot_bytes foot → result ≡ Ok foot }
     ensures is_foot { IfOk result (λ foot. IsFoot foot × (body.now ≡ foot_bytes foot)) }
-    ensures refusals { IfErr result (λ fault. IsUnfit id at fault) }
+    ensures refusals { IfErr result (λ fault. IsFootUnfit id at body.now fault) }
 {
+    let malformed = Fault::Malformed { file: id, at };
     let Some(foot) = split_foot(body) else {
-        return Err(Fault::Malformed { file: id, at });
+        return Err(malformed);
     };
-    checked_number(id, at, foot.entries)?;
-    checked_number(id, at, foot.sizes)?;
-    checked_number(id, at, foot.lo)?;
-    checked_number(id, at, foot.hi)?;
-    checked_number(id, at, foot.index_at)?;
-    checked_number(id, at, foot.filter_at)?;
-    if foot.entries == 0 || foot.blocks == 0 {
-        return Err(Fault::Malformed { file: id, at });
+    if foot.entries == 0 {
+        return Err(malformed);
+    }
+    let numbers = [
+        foot.entries,
+        foot.sizes,
+        foot.lo,
+        foot.hi,
+        foot.index_at,
+        foot.filter_at,
+    ];
+    check_numbers(id, at, &numbers)?;
+    if foot.blocks == 0 {
+        return Err(malformed);
     }
     Ok(foot)
 }

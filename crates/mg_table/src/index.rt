@@ -3,15 +3,13 @@
 ghost use Rattle.std.specs.Prelude.{◌≡◌, ◌≤◌, ◌<◌, ◌^◌, ◌⊎◌, ◌↔◌, ◌++◌, ℕ, List, [], length, OnOk, IfErr, IfOk, IfSome, IsSome, IsTrue, MatchResult};
 ghost use Rattle.std.specs.List.{All};
 ghost use Rattle.mg_block.specs.Block.{Precedes};
-ghost use Rattle.mg_table.specs.Index.{index_bytes, place_bytes, AreNear, FitsFields, IsIndexFrom, IsPlace};
-ghost use Rattle.mg_table.specs.Loading.{IsUnfit};
+ghost use Rattle.mg_table.specs.Index.{index_bytes, place_bytes, FitsFields, IsIndexFrom, IsIndexUnfit, IsItemAt, IsItemUnfit, IsPlace, MayFollow};
 ghost use Rattle.mg_table.specs.declared.index.BlockPlace.{BlockPlace};
 
-use crate::fields::{split_short, split_u32, split_u64};
-use mg_frame::{put_short, put_u32, put_u64};
+use mg_frame::{put_short, put_u32, put_u64, split_short, split_u32, split_u64};
 use mg_items::Items;
 use mg_model::{Fault, FileId, Key};
-use mg_sealed::checked_number;
+use mg_sealed::check_numbers;
 use std::alloc::{AllocError, Global};
 use std::cmp::Ordering;
 
@@ -60,6 +58,7 @@ struct Item<'a> {
 fn split_item(bytes: &[u8]) -> Option<(Item<'_>, &[u8])>
     ensures split { IfSome result (λ split.
         bytes.now ≡ place_bytes (record { key = split.0.key.now; at = split.0.at; len = split.0.len }) ++ split.1.now) }
+    ensures fits { IfSome result (λ split. FitsFields (record { key = split.0.key.now; at = split.0.at; len = split.0.len })) }
     ensures written { (place : BlockPlace) (rest : List ℕ) → FitsFields place → bytes.now ≡ place_bytes place ++ rest →
         IsSome result × IfSome result (λ split.
         (split.0.key.now ≡ place.key) × (split.0.at ≡ place.at) × (split.0.len ≡ place.len) × (split.1.now ≡ rest)) }
@@ -72,9 +71,27 @@ fn split_item(bytes: &[u8]) -> Option<(Item<'_>, &[u8])>
 
 /// Whether a block with this first key may follow one with the key `previous`.
 fn may_follow(previous: &[u8], key: &[u8]) -> bool
-    ensures { IsTrue result ↔ (Precedes previous.now key.now × (length key.now ≤ 250)) }
+    ensures { IsTrue result ↔ MayFollow previous.now key.now }
 {
     previous.cmp(key) == Ordering::Less && key.len() <= Key::MAX_LEN
+}
+
+/// Judges an item of the index of a file, which stands behind one with the key `previous`, and whose block should stand at
+/// `end`. Its fields are judged from left to right.
+fn judge_item(id: FileId, at: u64, previous: &[u8], end: u64, item: Item<'_>) -> Result<(), Fault>
+    ensures { MatchResult result
+        (λ _. IsItemAt previous.now end (record { key = item.entry.key.now; at = item.entry.at; len = item.entry.len }))
+        (λ fault. IsItemUnfit id at previous.now end (record { key = item.entry.key.now; at = item.entry.at; len = item.entry.len }) fault) }
+{
+    let malformed = Fault::Malformed { file: id, at };
+    if !may_follow(previous, item.key) {
+        return Err(malformed);
+    }
+    check_numbers(id, at, &[item.at])?;
+    if item.at != end {
+        return Err(malformed);
+    }
+    Ok(())
 }
 
 /// The index of this body, which stands at a place of a file: first keys strictly rise, and the blocks' frames stand one after
@@ -88,21 +105,15 @@ pub(crate) fn read_index_body(
     requires { at < 2 ^ 62 }
     ensures written { (places : List BlockPlace) → IsIndexFrom [] 0 places at → body.now ≡ index_bytes places →
         MatchResult result (λ index. index ≡ places) (λ fault. fault ≡ Fault.NoMemory) }
-    ensures near { IfOk result (λ index. AreNear index) }
-    ensures refusals { IfErr result (λ fault. IsUnfit id at fault ⊎ (fault ≡ Fault.NoMemory)) }
+    ensures is_index { IfOk result (λ index. IsIndexFrom [] 0 index at × (body.now ≡ index_bytes index)) }
+    ensures refusals { IfErr result (λ fault. (fault ≡ Fault.NoMemory) ⊎ IsIndexUnfit id at body.now fault) }
 {
     let mut index = Items::new(alloc);
     let mut rest = body;
     let mut previous = &body[..0];
-    let mut place = 0;
+    let mut end = 0;
     while let Some((item, behind)) = split_item(rest) {
-        checked_number(id, at, item.at)?;
-        if !may_follow(previous, item.key) {
-            return Err(Fault::Malformed { file: id, at });
-        }
-        if item.at != place {
-            return Err(Fault::Malformed { file: id, at });
-        }
+        judge_item(id, at, previous, end, item)?;
         let key = Items::from_slice(alloc, item.key)?;
         index.push(BlockPlace {
             key,
@@ -110,13 +121,13 @@ pub(crate) fn read_index_body(
             len: item.len,
         })?;
         previous = item.key;
-        place = item.at + u64::from(item.len);
+        end = item.at + u64::from(item.len);
         rest = behind;
     }
     if !rest.is_empty() {
         return Err(Fault::Malformed { file: id, at });
     }
-    if place != at {
+    if end != at {
         return Err(Fault::Malformed { file: id, at });
     }
     Ok(index)

@@ -5,7 +5,6 @@
 #![tactic(auto)]
 
 mod entry;
-mod fields;
 mod foot;
 mod index;
 pub mod laws;

@@ -1,12 +1,12 @@
 //! Loading a table: its foot, its index and its filter.
 
-ghost use Rattle.std.specs.Prelude.{◌≡◌, ℕ, ◌<◌, ◌≤◌, ◌^◌, ◌⊎◌, List, length, IfErr, IfOk, IfSome, MatchResult, Ok};
+ghost use Rattle.std.specs.Prelude.{◌≡◌, ℕ, ◌<◌, ◌≤◌, ◌^◌, ◌⊎◌, List, length, All, IfErr, IfOk, IfSome, MatchResult, Ok};
 ghost use Rattle.mg_faults.specs.Causes.{HasCause};
 ghost use Rattle.mg_sealed.specs.Answers.{Answers, IsOutside};
 ghost use Rattle.mg_sealed.specs.Foot.{foot_body};
 ghost use Rattle.mg_table.specs.Foot.{foot_bytes, IsFoot};
-ghost use Rattle.mg_table.specs.Index.{places_from};
-ghost use Rattle.mg_table.specs.Loading.{Knows, IsFilterRefused, IsFootRefused, IsIndexRefused, IsRefused};
+ghost use Rattle.mg_table.specs.Index.{places_from, IsPlace};
+ghost use Rattle.mg_table.specs.Loading.{Knows, IsFilterRead, IsFilterRefused, IsFootRefused, IsIndexRead, IsIndexRefused, IsRead, IsRefused};
 ghost use Rattle.mg_table.specs.Table.{foot_of, IsTable, Stands};
 ghost use Rattle.mg_table.specs.declared.entry.Entry.{Entry};
 
@@ -42,6 +42,7 @@ pub fn load_table<F: Files>(
         (λ fault. IsOutside fault)) }
     ensures len { IfOk result (λ _. IfSome (F.told file) (λ bytes. length bytes ≡ len)) }
     ensures refusals { IfErr result (λ fault. IfSome (F.told file) (λ bytes. IsRefused id file len bytes fault)) }
+    ensures read { IfOk result (λ table. IfSome (F.told file) (λ bytes. IsRead id bytes table)) }
     ensures file { IfOk result (λ table. table.file ≡ record { id = id; file = file; len = len }) }
     ensures cause { HasCause Fault.ReadFault (F.faults port.old) (F.faults port.new) result }
 {
@@ -89,6 +90,9 @@ fn read_index<F: Files>(
     requires least { 73 ≤ file.now.len }
     ensures told { Knows (F.told file.now.file) file.now.len (λ lo hi blocks filter. foot.now ≡ foot_of lo hi blocks filter →
         Answers (Ok (places_from 0 blocks)) result) }
+    ensures read { IfOk result (λ index. IfSome (F.told file.now.file) (λ bytes. file.now.len ≡ length bytes →
+        IsIndexRead file.now.id bytes foot.now index)) }
+    ensures places { IfOk result (λ index. All IsPlace index) }
     ensures refusals { IfErr result (λ fault. IfSome (F.told file.now.file) (λ bytes. file.now.len ≡ length bytes →
         IsOutside fault ⊎ IsIndexRefused file.now.id bytes foot.now fault)) }
     ensures cause { HasCause Fault.ReadFault (F.faults port.old) (F.faults port.new) result }
@@ -123,6 +127,8 @@ fn read_filter<F: Files>(
     requires least { 73 ≤ file.now.len }
     ensures told { Knows (F.told file.now.file) file.now.len (λ lo hi blocks filter. foot.now ≡ foot_of lo hi blocks filter →
         Answers (Ok filter) result) }
+    ensures read { IfOk result (λ filter. IfSome (F.told file.now.file) (λ bytes. file.now.len ≡ length bytes →
+        IsFilterRead file.now.id bytes foot.now filter)) }
     ensures refusals { IfErr result (λ fault. IfSome (F.told file.now.file) (λ bytes. file.now.len ≡ length bytes →
         IsOutside fault ⊎ IsFilterRefused file.now.id bytes foot.now fault)) }
     ensures cause { HasCause Fault.ReadFault (F.faults port.old) (F.faults port.new) result }

@@ -5,9 +5,10 @@ ghost use Rattle.mg_block.specs.Block.{IsBlock, Precedes};
 ghost use Rattle.mg_bloom.specs.Bloom.{key_words};
 ghost use Rattle.mg_faults.specs.Causes.{HasCause};
 ghost use Rattle.mg_sealed.specs.Answers.{Answers, IsOutside};
+ghost use Rattle.mg_sealed.specs.Blocks.{IsUnfitAt};
 ghost use Rattle.mg_table.specs.Entries.{pair_of, payload_of, IsEntry};
 ghost use Rattle.mg_table.specs.Index.{places_from};
-ghost use Rattle.mg_table.specs.Reading.{block_at, entry_of, HasUnfit, IsUnfit};
+ghost use Rattle.mg_table.specs.Reading.{entry_of, HasUnfit};
 ghost use Rattle.mg_table.specs.Table.{IsTableOf, Stands};
 ghost use Rattle.mg_table.specs.declared.entry.Entry.{Entry};
 
@@ -19,15 +20,9 @@ use mg_bloom::HashedKey;
 use mg_disk::Files;
 use mg_items::Items;
 use mg_model::{Fault, FileId, Key};
-use mg_sealed::{Frame, read_frame};
+use mg_sealed::{NUMBER_LIMIT, read_block};
 use std::alloc::Global;
 use std::cmp::Ordering;
-
-/// A block stands below this place.
-const PLACE_LIMIT: u64 = 1 << 62;
-
-/// The bytes of a frame beside its body.
-const FRAME_OVERHEAD: u64 = 20;
 
 /// The entry of a key.
 ///
@@ -65,7 +60,7 @@ pub fn find_hashed<F: Files>(
         return Ok(None);
     };
     let place = &table.index.as_slice()[number];
-    let frame = read_block(alloc, port, table, place, number as u64)?;
+    let frame = read_block(alloc, port, &table.file, place.at, place.len, number as u64)?;
     find_in_block(alloc, table.file.id, place.at, frame.body(), key)
 }
 
@@ -104,41 +99,6 @@ fn blocks_up_to(index: &[BlockPlace], key: &[u8]) -> usize
     low
 }
 
-/// Reads the frame of a block. One of another length than the index says is malformed.
-#[tactic(auto, unfolding(crate::specs::Reading::block_at))]
-fn read_block<F: Files>(
-    alloc: Global,
-    port: &mut F,
-    table: &Table<F::Sealed>,
-    place: &BlockPlace,
-    number: u64,
-) -> Result<Frame, Fault>
-    ensures told { IfSome (F.told table.now.file.file) (λ bytes. table.now.file.len ≡ length bytes →
-        Answers (block_at table.now.file.id bytes place.now number) result) }
-    ensures refusals { IfErr result (λ fault. IsOutside fault ⊎ IsUnfit table.now.file.id place.now.at fault) }
-    ensures cause { HasCause Fault.ReadFault (F.faults port.old) (F.faults port.new) result }
-{
-    let malformed = Fault::Malformed {
-        file: table.file.id,
-        at: place.at,
-    };
-    if place.at >= PLACE_LIMIT {
-        return Err(malformed);
-    }
-    let frame = read_frame(
-        alloc,
-        port,
-        &table.file,
-        place.at,
-        place.len as usize,
-        number,
-    )?;
-    if frame.body().len() as u64 + FRAME_OVERHEAD != u64::from(place.len) {
-        return Err(malformed);
-    }
-    Ok(frame)
-}
-
 /// The entry of a key in a block, which was read at a place of a file.
 fn find_in_block(
     alloc: Global,
@@ -149,7 +109,7 @@ fn find_in_block(
 ) -> Result<Option<Entry>, Fault>
     ensures in_block { (entries : List Entry) → All IsEntry entries → IsBlock block.now (map pair_of entries) →
         MatchResult result (λ found. found ≡ entry_of key.now entries) (λ fault. fault ≡ Fault.NoMemory) }
-    ensures refusals { IfErr result (λ fault. (fault ≡ Fault.NoMemory) ⊎ IsUnfit id at fault) }
+    ensures refusals { IfErr result (λ fault. (fault ≡ Fault.NoMemory) ⊎ IsUnfitAt id at fault) }
 {
     let mut payload = [0; 255];
     match mg_block::find(block, key.bytes(), &mut payload) {
@@ -166,7 +126,7 @@ fn find_in_block(
 /// The entry of a key and a payload in the block at a place of a file.
 fn entry_from(id: FileId, at: u64, key: Key, payload: &[u8]) -> Result<Entry, Fault>
     ensures written { (entry : Entry) → IsEntry entry → key ≡ entry.key → payload.now ≡ payload_of entry → result ≡ Ok entry }
-    ensures refusals { IfErr result (λ fault. IsUnfit id at fault) }
+    ensures refusals { IfErr result (λ fault. IsUnfitAt id at fault) }
 {
     match take_payload(payload) {
         Ok(Payload { seq, size, gone }) => Ok(Entry {
@@ -179,7 +139,7 @@ fn entry_from(id: FileId, at: u64, key: Key, payload: &[u8]) -> Result<Entry, Fa
             file: id,
             at,
             kept,
-            found: PLACE_LIMIT,
+            found: NUMBER_LIMIT,
         }),
         Err(Refused::Form) => Err(Fault::Malformed { file: id, at }),
     }
@@ -202,7 +162,7 @@ pub fn scan<F: Files>(
     let mut entries = Items::new(alloc);
     for number in 0..table.index.len() {
         let place = &table.index.as_slice()[number];
-        let frame = read_block(alloc, port, table, place, number as u64)?;
+        let frame = read_block(alloc, port, &table.file, place.at, place.len, number as u64)?;
         list_block(alloc, table.file.id, place.at, frame.body(), &mut entries)?;
     }
     Ok(entries)
@@ -218,7 +178,7 @@ fn list_block(
 ) -> Result<(), Fault>
     ensures in_block { (listed : List Entry) → All IsEntry listed → IsBlock block.now (map pair_of listed) →
         MatchResult result (λ _. entries.new ≡ entries.old ++ listed) (λ fault. fault ≡ Fault.NoMemory) }
-    ensures refusals { IfErr result (λ fault. (fault ≡ Fault.NoMemory) ⊎ IsUnfit id at fault) }
+    ensures refusals { IfErr result (λ fault. (fault ≡ Fault.NoMemory) ⊎ IsUnfitAt id at fault) }
 {
     let malformed = Fault::Malformed { file: id, at };
     let mut cursor = BlockCursor::new(block);

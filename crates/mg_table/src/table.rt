@@ -1,6 +1,7 @@
 //! A table as it is kept in memory.
 
-ghost use Rattle.std.specs.Prelude.{◌≡◌};
+ghost use Rattle.std.specs.Prelude.{◌≡◌, All};
+ghost use Rattle.mg_table.specs.Index.{IsPlace};
 
 use crate::foot::Foot;
 use crate::index::BlockPlace;
@@ -15,6 +16,7 @@ pub struct Table<S> {
     pub(crate) index: Items<BlockPlace>,
     pub(crate) filter: Filter,
     pub(crate) foot: Foot,
+    ghost places: { All IsPlace index },
 }
 
 impl<S> Table<S> {

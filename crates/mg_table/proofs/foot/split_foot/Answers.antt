@@ -1,4 +1,4 @@
-use Rattle.std.proofs.Common.{◌≡◌, ◌++◌, ◌∙◌, sym, ap, refl, arith, ℕ, List, length, Option, Some}
+use Rattle.std.proofs.Common.{◌≡◌, ◌++◌, ◌∙◌, sym, ap, refl, arith, rules, ℕ, List, length, Option, Some}
 use Rattle.std.proofs.lemmas.Grind.{common_steps}
 use Rattle.mg_table.specs.Foot.{counts_bytes, places_bytes, span_bytes}
 use Rattle.mg_table.specs.declared.foot.Foot.{Foot}
@@ -24,12 +24,23 @@ returns-clause-split c =
       blocks = c.in_ok-index_at.blocks;
     } in
     let zero : length c.in_ok-index_at.rest.now ≡ 0 = grind (arith, common_steps) in
-    c.in_ok-entries.ensures.split foot refl
+    let spelled = c.in_ok-entries.ensures.split foot refl
     ∙ ap (λ (rest : List ℕ). counts_bytes foot ++ rest)
     (c.in_ok-lo.ensures.split foot refl
     ∙ ap (λ (rest : List ℕ). span_bytes foot ++ rest)
     (c.in_ok-index_at.ensures.split foot refl ∙ ap (λ (rest : List ℕ). places_bytes foot ++ rest) (none_left c.in_ok-index_at.rest.now zero)))
-    ∙ sym (foot_parts foot)
+    ∙ sym (foot_parts foot) in (
+      record {
+        entries = search rules;
+        sizes = search rules;
+        lo = search rules;
+        hi = search rules;
+        index_at = search rules;
+        filter_at = search rules;
+        blocks = search rules;
+      },
+      spelled,
+    )
 
 pub returns-clause-written : goal.returns-clause-written
 returns-clause-written c = λ foot fit is.

@@ -1,4 +1,4 @@
-use Rattle.std.proofs.Common.{◌≡◌, ◌+◌, ◌∙◌, ap, sym, subst, arith, length, List, ℕ, Result, Ok, Err, ◌-◌, ◌≢◌, ◌⊎◌, IfSome}
+use Rattle.std.proofs.Common.{◌≡◌, ◌+◌, ◌∙◌, ap, refl, sym, subst, arith, length, List, ℕ, Result, Ok, Err, ◌-◌, ◌≢◌, ◌⊎◌, IfSome}
 use Rattle.std.proofs.lemmas.Grind.{common_steps}
 use Rattle.mg_bloom.specs.Bloom.{IsBodyLength}
 use Rattle.mg_model.specs.declared.faults.Fault.{Fault}
@@ -6,9 +6,10 @@ use Rattle.mg_sealed.specs.Answers.{Answers, IsOutside}
 use Rattle.mg_table.specs.Table.{foot_of, hashed_keys}
 use Rattle.mg_table.specs.declared.foot.Foot.{Foot}
 use Rattle.mg_table.specs.Loading.{IsFilterRefused}
-use Rattle.mg_table.proofs.KnownLaws.{knows_then, knows_both, knows_filter, knows_length, refused, answered, outside, answers}
+use Rattle.mg_sealed.proofs.AnswerLaws.{answered, answers, err_is, outside, refused}
+use Rattle.mg_table.proofs.KnownLaws.{knows_then, knows_both, knows_filter, knows_length}
 use Rattle.mg_table.proofs.LoadingLaws.{filter_is_body}
-use Rattle.mg_table.proofs.RefusalLaws.{err_is, filter_frame_refused, filter_apart, filter_unfit}
+use Rattle.mg_table.proofs.RefusalLaws.{filter_apart, filter_frame_refused, filter_read, filter_unfit}
 use Rattle.mg_table.proofs.load.read_filter.Goals as goal
 
 pub returns-in_err-frame-clause-told : goal.returns-in_err-frame-clause-told
@@ -20,7 +21,7 @@ returns-in_err-frame-clause-told g c =
     let count : number ≡ foot.blocks + 1 = ap (λ n. n + 1) c.from-number.ensures in
     let fault = c.in_err-frame.field-0.0 in
     knows_then told file.len (λ lo hi blocks filter. foot ≡ foot_of lo hi blocks filter → Answers (Ok filter) (Err fault)) _
-    (λ lo hi entries blocks filter parts h there. outside filter _ fault (grind (arith, common_steps)) (refused filter fault (h there)))
+    (λ lo hi entries blocks filter parts h there. outside _ _ fault (grind (arith, common_steps)) (refused filter _ fault refl (h there)))
     (knows_filter told file.id file.len foot number (Err fault) count c.in_err-frame.ensures.told)
 
 pub returns-then-foot-body-clause-told : goal.returns-then-foot-body-clause-told
@@ -34,7 +35,7 @@ returns-then-foot-body-clause-told g c =
     let read : Result (List ℕ) Fault = Ok frame in
     knows_then told file.len (λ lo hi blocks filter. (foot ≡ foot_of lo hi blocks filter → Answers (Ok filter) read) × (file.len ≡ (foot_of lo hi blocks filter).filter_at + (length filter + 20) + 73)) _
     (λ lo hi entries blocks filter parts h there.
-    let body : length c.body.result.now ≡ length filter = ap length (c.body.ensures ∙ answered filter frame (h.0 there)) in
+    let body : length c.body.result.now ≡ length filter = ap length (c.body.ensures ∙ answered filter frame _ refl (h.0 there)) in
     let ends : file.len ≡ foot.filter_at + (length filter + 20) + 73 = h.1 ∙ ap (λ (f : Foot). f.filter_at + (length filter + 20) + 73) (sym there) in
     absurd (grind (arith, common_steps, ends, body)))
     (knows_both told file.len (λ lo hi blocks filter. foot ≡ foot_of lo hi blocks filter → Answers (Ok filter) read)
@@ -52,7 +53,7 @@ returns-in_default-clause-told g c =
     let read : Result (List ℕ) Fault = Ok frame in
     knows_then told file.len (λ lo hi blocks filter. foot ≡ foot_of lo hi blocks filter → Answers (Ok filter) read) _
     (λ lo hi entries blocks filter parts h there.
-    let items : c.into_body.result.items ≡ filter = c.into_body.ensures ∙ answered filter frame (h there) in
+    let items : c.into_body.result.items ≡ filter = c.into_body.ensures ∙ answered filter frame _ refl (h there) in
     absurd (c.in_default.ensures (subst (λ (bytes : List ℕ). IsBodyLength (length bytes)) (sym items) (filter_is_body (hashed_keys entries) filter parts.filtered))))
     (knows_filter told file.id file.len foot number read count c.in_ok-frame.ensures.told)
 
@@ -67,7 +68,7 @@ returns-clause-told g c =
     let read : Result (List ℕ) Fault = Ok frame in
     knows_then told file.len (λ lo hi blocks filter. foot ≡ foot_of lo hi blocks filter → Answers (Ok filter) read) _
     (λ lo hi entries blocks filter parts h there.
-    let items : c.into_body.result.items ≡ filter = c.into_body.ensures ∙ answered filter frame (h there) in
+    let items : c.into_body.result.items ≡ filter = c.into_body.ensures ∙ answered filter frame _ refl (h there) in
     let kept : c.in-Some.filter ≡ filter = c.in-Some.ensures.0 ∙ items in
     answers filter _ (ap (λ (bytes : List ℕ). let r : Result (List ℕ) Fault = Ok bytes in r) kept))
     (knows_filter told file.id file.len foot number read count c.in_ok-frame.ensures.told)
@@ -103,5 +104,22 @@ returns-in_default-clause-refusals g c =
     let number = c.from-number.result + 1 in
     let count : number ≡ foot.blocks + 1 = ap (λ n. n + 1) c.from-number.ensures in
     let frame = c.in_ok-frame.frame in
-    filter_unfit told file.id file.len foot number frame count
+    let long : length c.body.result.now ≡ length frame = ap length c.body.ensures in
+    let ends : foot.filter_at + length frame + 20 ≡ file.len - 73 = grind (arith, common_steps, long) in
+    filter_unfit told file.id file.len foot number frame count ends
     (λ fits. c.in_default.ensures (subst (λ (bytes : List ℕ). IsBodyLength (length bytes)) (sym c.into_body.ensures) fits)) c.in_ok-frame.ensures.told
+
+pub returns-clause-read : goal.returns-clause-read
+returns-clause-read g c =
+    let file = c.args.file.now in
+    let foot = c.args.foot.now in
+    let told = g.F.Files.told file.file in
+    let number = c.from-number.result + 1 in
+    let count : number ≡ foot.blocks + 1 = ap (λ n. n + 1) c.from-number.ensures in
+    let frame = c.in_ok-frame.frame in
+    let filter = c.in-Some.filter in
+    let is : frame ≡ filter = sym (c.in-Some.ensures.0 ∙ c.into_body.ensures) in
+    let long : length c.body.result.now ≡ length filter = ap length (c.body.ensures ∙ is) in
+    let ends : foot.filter_at + length filter + 20 ≡ file.len - 73 = grind (arith, common_steps, long) in
+    filter_read told file.id file.len foot number frame filter count is ends c.in-Some.ensures.1
+    c.in_ok-frame.ensures.told

@@ -1,16 +1,17 @@
 use Rattle.std.proofs.Common.{◌≡◌, ◌+◌, ◌∙◌, ap, sym, subst, inl, arith, length, List, [], ℕ, Result, Ok, Err, ◌≢◌, ◌⊎◌, IfSome, inr, refl}
 use Rattle.std.proofs.lemmas.Grind.{common_steps}
 use Rattle.mg_model.specs.declared.faults.Fault.{Fault}
-use Rattle.mg_model.specs.declared.faults.Fault.TheVariants.{Malformed}
 use Rattle.mg_sealed.specs.Answers.{Answers, IsOutside}
-use Rattle.mg_table.specs.Index.{index_bytes, places_from, IsIndexFrom}
+use Rattle.mg_table.specs.Index.{index_bytes, places_from, IsIndexFrom, IsIndexUnfit}
 use Rattle.mg_table.specs.Table.{foot_of}
 use Rattle.mg_table.specs.declared.foot.Foot.{Foot}
 use Rattle.mg_table.specs.declared.index.BlockPlace.{BlockPlace}
-use Rattle.mg_table.specs.Loading.{IsIndexRefused, IsNoIndex}
-use Rattle.mg_table.proofs.KnownLaws.{knows_then, knows_index, refused, answered, outside, answers}
+use Rattle.mg_table.specs.Loading.{IsIndexRefused}
+use Rattle.mg_sealed.proofs.AnswerLaws.{answered, answers, err_is, outside, refused}
+use Rattle.mg_table.proofs.KnownLaws.{knows_then, knows_index}
 use Rattle.mg_table.proofs.LoadingLaws.{index_of_table, length-places_from}
-use Rattle.mg_table.proofs.RefusalLaws.{err_is, unfit_not_memory, index_frame_refused, index_unfit, index_apart, memory_refused}
+use Rattle.mg_table.proofs.RefusalLaws.{index_apart, index_frame_refused, index_miscounted, index_read, index_unfit, memory_refused}
+use Rattle.mg_table.proofs.PlaceLaws.{places_are}
 use Rattle.mg_table.proofs.load.read_index.Goals as goal
 
 pub returns-in_err-frame-clause-told : goal.returns-in_err-frame-clause-told
@@ -20,7 +21,7 @@ returns-in_err-frame-clause-told g c =
     let told = g.F.Files.told file.file in
     let fault = c.in_err-frame.field-0.0 in
     knows_then told file.len (λ lo hi blocks filter. foot ≡ foot_of lo hi blocks filter → Answers (Ok (index_bytes (places_from 0 blocks))) (Err fault)) _
-    (λ lo hi entries blocks filter parts h there. outside (places_from 0 blocks) _ fault (grind (arith, common_steps)) (refused (index_bytes (places_from 0 blocks)) fault (h there)))
+    (λ lo hi entries blocks filter parts h there. outside _ _ fault (grind (arith, common_steps)) (refused (index_bytes (places_from 0 blocks)) _ fault refl (h there)))
     (knows_index told file.id file.len foot c.from-number.result (Err fault) c.from-number.ensures c.in_err-frame.ensures.told)
 
 pub returns-in_err-index-clause-told : goal.returns-in_err-index-clause-told
@@ -34,8 +35,8 @@ returns-in_err-index-clause-told g c =
     knows_then told file.len (λ lo hi blocks filter. foot ≡ foot_of lo hi blocks filter → Answers (Ok (index_bytes (places_from 0 blocks))) read) _
     (λ lo hi entries blocks filter parts h there.
     let is = subst (λ at. IsIndexFrom [] 0 (places_from 0 blocks) at) (sym (ap (λ (f : Foot). f.index_at) there)) (index_of_table lo hi entries blocks filter parts) in
-    outside (places_from 0 blocks) _ fault (grind (arith, common_steps))
-    (inl (c.in_err-index.ensures.written (places_from 0 blocks) is (c.body.ensures ∙ answered (index_bytes (places_from 0 blocks)) frame (h there)))))
+    outside _ _ fault (grind (arith, common_steps))
+    (inl (c.in_err-index.ensures.written (places_from 0 blocks) is (c.body.ensures ∙ answered (index_bytes (places_from 0 blocks)) frame _ refl (h there)))))
     (knows_index told file.id file.len foot c.from-number.result read c.from-number.ensures c.in_ok-frame.ensures.told)
 
 pub returns-then-len-number-clause-told : goal.returns-then-len-number-clause-told
@@ -49,7 +50,7 @@ returns-then-len-number-clause-told g c =
     (λ lo hi entries blocks filter parts h there.
     let is = subst (λ at. IsIndexFrom [] 0 (places_from 0 blocks) at) (sym (ap (λ (f : Foot). f.index_at) there)) (index_of_table lo hi entries blocks filter parts) in
     let index : c.in_ok-index.index ≡ places_from 0 blocks =
-    c.in_ok-index.ensures.written (places_from 0 blocks) is (c.body.ensures ∙ answered (index_bytes (places_from 0 blocks)) frame (h there)) in
+    c.in_ok-index.ensures.written (places_from 0 blocks) is (c.body.ensures ∙ answered (index_bytes (places_from 0 blocks)) frame _ refl (h there)) in
     let same : length c.in_ok-index.index ≡ c.from-number.result =
     ap length index ∙ length-places_from 0 blocks ∙ sym (c.from-number.ensures ∙ ap (λ (f : Foot). f.blocks) there) in
     absurd (grind (arith, common_steps, same)))
@@ -64,7 +65,7 @@ returns-then-foot-body-clause-told g c =
     let read : Result (List ℕ) Fault = Ok frame in
     knows_then told file.len (λ lo hi blocks filter. foot ≡ foot_of lo hi blocks filter → Answers (Ok (index_bytes (places_from 0 blocks))) read) _
     (λ lo hi entries blocks filter parts h there.
-    let body : c.body-2.result.now ≡ index_bytes (places_from 0 blocks) = c.body-2.ensures ∙ answered (index_bytes (places_from 0 blocks)) frame (h there) in
+    let body : c.body-2.result.now ≡ index_bytes (places_from 0 blocks) = c.body-2.ensures ∙ answered (index_bytes (places_from 0 blocks)) frame _ refl (h there) in
     let ends : foot.filter_at ≡ foot.index_at + length (index_bytes (places_from 0 blocks)) + 20 =
     ap (λ (f : Foot). f.filter_at) there ∙ ap (λ n. n + length (index_bytes (places_from 0 blocks)) + 20) (sym (ap (λ (f : Foot). f.index_at) there)) in
     let long : length c.body-2.result.now ≡ length (index_bytes (places_from 0 blocks)) = ap length body in
@@ -82,7 +83,7 @@ returns-clause-told g c =
     (λ lo hi entries blocks filter parts h there.
     let is = subst (λ at. IsIndexFrom [] 0 (places_from 0 blocks) at) (sym (ap (λ (f : Foot). f.index_at) there)) (index_of_table lo hi entries blocks filter parts) in
     let index : c.in_ok-index.index ≡ places_from 0 blocks =
-    c.in_ok-index.ensures.written (places_from 0 blocks) is (c.body.ensures ∙ answered (index_bytes (places_from 0 blocks)) frame (h there)) in
+    c.in_ok-index.ensures.written (places_from 0 blocks) is (c.body.ensures ∙ answered (index_bytes (places_from 0 blocks)) frame _ refl (h there)) in
     answers (places_from 0 blocks) _ (ap (λ (ps : List BlockPlace). let r : Result (List BlockPlace) Fault = Ok ps in r) index))
     (knows_index told file.id file.len foot c.from-number.result read c.from-number.ensures c.in_ok-frame.ensures.told)
 
@@ -104,11 +105,10 @@ returns-in_err-index-clause-refusals g c =
     let fault = c.in_err-index.field-0.0 in
     err_is _ fault (λ fault. IfSome told (λ bytes. file.len ≡ length bytes → IsOutside fault ⊎ IsIndexRefused file.id bytes foot fault)) (grind (arith, common_steps))
     (elim c.in_err-index.ensures.refusals [
-      | inr memory ↦ memory_refused told file.len (λ bytes. IsIndexRefused file.id bytes foot fault) fault memory
-      | inl unfit ↦
+      | inl memory ↦ memory_refused told file.len (λ bytes. IsIndexRefused file.id bytes foot fault) fault memory
+      | inr unfit ↦
           index_unfit told file.id file.len foot c.from-number.result frame fault c.from-number.ensures
-          (λ places is many spelled. unfit_not_memory file.id foot.index_at fault unfit (c.in_err-index.ensures.written places is (c.body.ensures ∙ spelled))) unfit
-          c.in_ok-frame.ensures.told
+          (subst (λ (body : List ℕ). IsIndexUnfit file.id foot.index_at body fault) c.body.ensures unfit) c.in_ok-frame.ensures.told
     ])
 
 pub returns-then-len-number-clause-refusals : goal.returns-then-len-number-clause-refusals
@@ -116,12 +116,11 @@ returns-then-len-number-clause-refusals g c =
     let file = c.args.file.now in
     let foot = c.args.foot.now in
     let told = g.F.Files.told file.file in
-    let frame = c.in_ok-frame.frame in
-    let none : IsNoIndex foot frame = λ places is many spelled.
-    let index : c.in_ok-index.index ≡ places = c.in_ok-index.ensures.written places is (c.body.ensures ∙ spelled) in
-    let same : length c.in_ok-index.index ≡ c.from-number.result = ap length index ∙ many ∙ sym c.from-number.ensures in
-    absurd (grind (arith, common_steps, same)) in
-    index_unfit told file.id file.len foot c.from-number.result frame (Malformed file.id foot.index_at) c.from-number.ensures none (inl refl) c.in_ok-frame.ensures.told
+    let index = c.in_ok-index.index in
+    let spelled = sym c.body.ensures ∙ c.in_ok-index.ensures.is_index.1 in
+    let other : length index ≢ foot.blocks = λ many. absurd (grind (arith, common_steps, many, c.from-number.ensures)) in
+    index_miscounted told file.id file.len foot c.from-number.result c.in_ok-frame.frame index c.from-number.ensures spelled c.in_ok-index.ensures.is_index.0 other
+    c.in_ok-frame.ensures.told
 
 pub returns-then-foot-body-clause-refusals : goal.returns-then-foot-body-clause-refusals
 returns-then-foot-body-clause-refusals g c =
@@ -129,6 +128,25 @@ returns-then-foot-body-clause-refusals g c =
     let foot = c.args.foot.now in
     let told = g.F.Files.told file.file in
     let frame = c.in_ok-frame.frame in
-    let long : length c.body-2.result.now ≡ length frame = ap length c.body-2.ensures in
-    let apart : foot.index_at + length frame + 20 ≢ foot.filter_at = λ ends. absurd (grind (arith, common_steps, ends, long)) in
-    index_apart told file.id file.len foot c.from-number.result frame c.from-number.ensures apart c.in_ok-frame.ensures.told
+    let index = c.in_ok-index.index in
+    let spelled : frame ≡ index_bytes index = sym c.body.ensures ∙ c.in_ok-index.ensures.is_index.1 in
+    let long : length c.body-2.result.now ≡ length (index_bytes index) = ap length (c.body-2.ensures ∙ spelled) in
+    let many : length index ≡ foot.blocks = grind (arith, common_steps, c.from-number.ensures) in
+    let apart : foot.index_at + length (index_bytes index) + 20 ≢ foot.filter_at = λ ends. absurd (grind (arith, common_steps, ends, long)) in
+    index_apart told file.id file.len foot c.from-number.result frame index c.from-number.ensures spelled c.in_ok-index.ensures.is_index.0 many apart c.in_ok-frame.ensures.told
+
+pub returns-clause-read : goal.returns-clause-read
+returns-clause-read g c =
+    let file = c.args.file.now in
+    let foot = c.args.foot.now in
+    let told = g.F.Files.told file.file in
+    let frame = c.in_ok-frame.frame in
+    let index = c.in_ok-index.index in
+    let spelled : frame ≡ index_bytes index = sym c.body.ensures ∙ c.in_ok-index.ensures.is_index.1 in
+    let long : length c.body-2.result.now ≡ length (index_bytes index) = ap length (c.body-2.ensures ∙ spelled) in
+    let many : length index ≡ foot.blocks = grind (arith, common_steps, c.from-number.ensures) in
+    let ends : foot.index_at + length (index_bytes index) + 20 ≡ foot.filter_at = grind (arith, common_steps, long) in
+    index_read told file.id file.len foot c.from-number.result frame index c.from-number.ensures spelled c.in_ok-index.ensures.is_index.0 many ends c.in_ok-frame.ensures.told
+
+pub returns-clause-places : goal.returns-clause-places
+returns-clause-places g c = places_are [] 0 c.in_ok-index.index c.args.foot.now.index_at c.in_ok-index.ensures.is_index.0

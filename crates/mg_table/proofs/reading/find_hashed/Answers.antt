@@ -3,7 +3,8 @@ use Rattle.std.proofs.lemmas.Grind.{common_steps}
 use Rattle.mg_block.specs.Block.{IsBlock}
 use Rattle.mg_table.specs.Entries.{pair_of}
 use Rattle.mg_table.specs.Reading.{entry_of}
-use Rattle.mg_table.proofs.ReadingLaws.{answers-from, block-answered, block-refused, outside-answer, told-then}
+use Rattle.mg_sealed.proofs.AnswerLaws.{outside}
+use Rattle.mg_table.proofs.ReadingLaws.{answers-from, block-answered, block-refused, told-then}
 use Rattle.mg_table.proofs.reading.find_hashed.Goals as goal
 
 pub returns-in_err-frame-clause-found : goal.returns-in_err-frame-clause-found
@@ -14,7 +15,7 @@ returns-in_err-frame-clause-found g c =
     let place = c.index-as_slice-number.result in
     let is : place ≡ get_or table.index number place = c.index-as_slice-number.is ∙ ap (λ ps. get_or ps number place) c.as_slice.ensures in
     told-then (told table.file.file) _ _ (λ bytes tells known entries stands.
-    outside-answer _ c.from_residual.result c.in_err-frame.field-0.0 (grind (arith, common_steps))
+    outside _ c.from_residual.result c.in_err-frame.field-0.0 (grind (arith, common_steps))
     (block-refused told table entries stands bytes tells place number c.in-Some.ensures.within is c.in_err-frame.field-0.0 known))
     c.in_err-frame.ensures.told
 

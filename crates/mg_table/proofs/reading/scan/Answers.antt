@@ -3,7 +3,8 @@ use Rattle.std.proofs.lemmas.Grind.{common_steps}
 use Rattle.mg_block.specs.Block.{IsBlock}
 use Rattle.mg_table.specs.Entries.{pair_of}
 use Rattle.mg_table.proofs.ListingLaws.{scanned-all, scanned-more}
-use Rattle.mg_table.proofs.ReadingLaws.{block-answered, block-refused, length-places_from, outside-answer, told-both, told-then}
+use Rattle.mg_sealed.proofs.AnswerLaws.{outside, some_both}
+use Rattle.mg_table.proofs.ReadingLaws.{block-answered, block-refused, length-places_from, told-then}
 use Rattle.mg_table.proofs.reading.scan.Goals as goal
 
 pub returns-in_err-frame-clause-listed : goal.returns-in_err-frame-clause-listed
@@ -15,7 +16,7 @@ returns-in_err-frame-clause-listed g c =
     let within : number < length table.index = omega (arith, c.len-number-end.ensures) in
     let is : place ≡ get_or table.index number place = c.index-as_slice-number.is ∙ ap (λ ps. get_or ps number place) c.as_slice.ensures in
     told-then (told table.file.file) _ _ (λ bytes tells known entries stands.
-    outside-answer _ c.from_residual.result c.in_err-frame.field-0.0 (grind (arith, common_steps))
+    outside _ c.from_residual.result c.in_err-frame.field-0.0 (grind (arith, common_steps))
     (block-refused told table entries stands bytes tells place number within is c.in_err-frame.field-0.0 known))
     c.in_err-frame.ensures.told
 
@@ -30,7 +31,7 @@ returns-in_err-list_block-clause-listed g c =
     told-then (told table.file.file) _ _ (λ bytes tells known entries stands.
     let block = get_or stands.blocks number [] in
     let read = block-answered told table entries stands bytes tells place number within is c.in_ok-frame.frame known [] in
-    outside-answer _ c.from_residual-in_err-list_block.result c.in_err-list_block.field-0.0 (grind (arith, common_steps))
+    outside _ c.from_residual-in_err-list_block.result c.in_err-list_block.field-0.0 (grind (arith, common_steps))
     (inl (c.in_err-list_block.ensures.in_block block read.1 (subst (λ (b : List ℕ). IsBlock b (map pair_of block)) (sym c.body.ensures) read.0))))
     c.in_ok-frame.ensures.told
 
@@ -50,7 +51,7 @@ loop-number-preserved g c =
           let inside : number < length stands.blocks = omega (arith, ap length stands.index, length-places_from 0 stands.blocks) in
           scanned-more stands.blocks number c.loop-number.entries c.list_block.new.entries inside (known.1 all stands)
           (c.in_ok-list_block.ensures.in_block block read.1 (subst (λ (b : List ℕ). IsBlock b (map pair_of block)) (sym c.body.ensures) read.0)))
-          (told-both (told table.file.file) _ _ c.in_ok-frame.ensures.told c.loop-number.invariant.listed);
+          (some_both (told table.file.file) _ _ c.in_ok-frame.ensures.told c.loop-number.invariant.listed);
     }
 
 pub returns-clause-listed : goal.returns-clause-listed
