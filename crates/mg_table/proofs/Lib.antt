@@ -1,3 +1,4 @@
+pub mod CauseLaws
 pub mod EntryLaws
 pub mod FilledLaws
 pub mod FilterLaws

@@ -1,7 +1,7 @@
 -- What is listed of a block.
 use Rattle.std.proofs.Common.{◌≡◌, ℕ, ◌+◌, ◌<◌, ◌≤◌, Bool, true, false, List, [], ◌∷◌, ◌++◌, length, map, refl, sym, ap, subst, ◌∙◌, arith, append_assoc, Option, Result, Ok, Err, IfOk, IfSome, MatchBool, get_or, take}
 use Rattle.std.proofs.lemmas.List.{append-nil, length-append, length-drop, map-append, take_all, take_more}
-use Rattle.std.proofs.lemmas.List.Elements.{All-head}
+use Rattle.std.proofs.lemmas.List.Elements.{All-head, All-nil, All-push}
 use Rattle.std.specs.List.{All}
 use Rattle.std.specs.Result.{result_or}
 use Rattle.mg_block.specs.Block.{shared_len, Follows, IsBlock}
@@ -9,13 +9,14 @@ use Rattle.mg_block.specs.Cursor.{Advances, GoesOn, Reading}
 use Rattle.mg_block.specs.View.{last_pair}
 use Rattle.mg_block.specs.declared.pair.NotABlock.{NotABlock}
 use Rattle.mg_block.specs.declared.pair.Pair.{Pair}
-use Rattle.mg_block.proofs.Listing.{Listed, Listed-bound}
+use Rattle.mg_block.proofs.Listing.{Listed, Listed-bound, Listed-none}
 use Rattle.mg_block.proofs.Order.{Extends-from_Precedes}
-use Rattle.mg_block.proofs.Spelling.{last_pair_after-push, RiseAfter-last}
+use Rattle.mg_block.proofs.Spelling.{last_pair_after-push, pair_is, RiseAfter-last}
 use Rattle.mg_block.specs.Block.{Begins}
 use Rattle.mg_model.specs.Bytes.{IsKey}
-use Rattle.mg_table.specs.Entries.{pair_of, IsEntry}
+use Rattle.mg_table.specs.Entries.{pair_of, payload_of, IsEntry}
 use Rattle.mg_table.specs.declared.entry.Entry.{Entry}
+use Rattle.mg_table.specs.Reading.{AreRead}
 use Rattle.mg_table.specs.Table.{Stands}
 use Rattle.mg_table.specs.declared.table.Table.{Table}
 use Rattle.mg_table.proofs.FilledLaws.{items_of-push}
@@ -30,9 +31,17 @@ pub record ListsFront (entries : List Entry) (read : List Pair) (before now : Li
   pub read_is : read ≡ map pair_of front
   pub listed : now ≡ before ++ front
 
+-- what the cursor has read are the pairs of entries in range, which are listed behind others
+pub record ListsRight (cursor : Reading) (before now : List Entry) : Type 0 where
+  pub front : List Entry
+  pub each : All IsEntry front
+  pub read_is : cursor.read ≡ map pair_of front
+  pub listed : now ≡ before ++ front
+
 -- what the cursor has read of a block is listed behind other entries
 pub record Lists (block : List ℕ) (cursor : Reading) (before now : List Entry) : Type 0 where
   pub read : Listed block cursor cursor.read
+  pub right : ListsRight cursor before now
   pub in_block : (entries : List Entry) → All IsEntry entries → IsBlock block (map pair_of entries) → ListsFront entries cursor.read before now
 
 -- the pair that was read last is that of an entry, with which one more of the entries is listed
@@ -42,7 +51,7 @@ pub record NextEntry (entries : List Entry) (read : List Pair) (before now : Lis
   pub last : last_pair read ≡ pair_of entry
   pub front : ListsFront entries read before (now ++ entry ∷ [])
 
-abbrev no_pair : Pair
+abbrev pub no_pair : Pair
 no_pair = record { key = []; payload = [] }
 
 pub or-ok : {T D E : Type 0} (r : Result T D) (e : E) (x : T) → result_or r (Err e) ≡ Ok x → r ≡ Ok x
@@ -114,11 +123,35 @@ read-more block old new listed a =
     let bytes : new.bytes ≡ block = a.bytes ∙ listed.bytes in
     record { bytes = bytes; read = refl; rest = a.rest; begins = subst (λ b. Begins b new.read a.rest) bytes a.begins }
 
+pub lists-none : (block : List ℕ) (cursor : Reading) (before : List Entry) → cursor.bytes ≡ block → cursor.read ≡ [] → Lists block cursor before before
+lists-none block cursor before bytes none = record {
+  read = Listed-none block cursor cursor.read bytes none none;
+  right = record { front = []; each = All-nil IsEntry; read_is = none; listed = sym (append-nil before) };
+  in_block = λ entries each is. record { front = []; left = entries; parts = refl; read_is = none; listed = sym (append-nil before) };
+}
+
+-- one entry more is listed
+pub right-more : (old new : Reading) (before now more : List Entry) (entry : Entry) → ListsRight old before now → Advances old new → more ≡ now ++ entry ∷ [] → IsEntry entry
+    → entry.key ≡ (last_pair new.read).key → payload_of entry ≡ (last_pair new.read).payload → ListsRight new before more
+right-more old new before now more entry right a put is key payload =
+    let last : last_pair new.read ≡ a.pair = ap last_pair a.read ∙ last_pair_after-push no_pair old.read a.pair in
+    let same : pair_of entry ≡ a.pair =
+    pair_is entry.key a.pair.key (payload_of entry) a.pair.payload (key ∙ ap (λ (p : Pair). p.key) last) (payload ∙ ap (λ (p : Pair). p.payload) last) in
+    record {
+      front = right.front ++ entry ∷ [];
+      each = All-push IsEntry right.front entry right.each is;
+      read_is = a.read ∙ ap (λ ps. ps ++ a.pair ∷ []) right.read_is ∙ ap (λ (p : Pair). map pair_of right.front ++ p ∷ []) (sym same)
+          ∙ sym (map-append pair_of right.front (entry ∷ []));
+      listed = put ∙ ap (λ es. es ++ entry ∷ []) right.listed ∙ append_assoc before right.front (entry ∷ []);
+    }
+
 pub Lists-more : (block : List ℕ) (old new : Reading) (before now more : List Entry) (entry : Entry) → Lists block old before now → Advances old new → more ≡ now ++ entry ∷ []
+    → IsEntry entry → entry.key ≡ (last_pair new.read).key → payload_of entry ≡ (last_pair new.read).payload
     → ((entries : List Entry) → All IsEntry entries → IsBlock block (map pair_of entries) → (next : NextEntry entries new.read before now) × (entry ≡ next.entry))
     → Lists block new before more
-Lists-more block old new before now more entry lists a is next = record {
+Lists-more block old new before now more entry lists a is right key payload next = record {
   read = read-more block old new lists.read a;
+  right = right-more old new before now more entry lists.right a is right key payload;
   in_block = λ entries each block_is.
       let n = next entries each block_is in
       let same : now ++ n.0.entry ∷ [] ≡ more = ap (λ e. now ++ e ∷ []) (sym n.1) ∙ sym is in
@@ -136,6 +169,8 @@ reads-fewer block old new listed a =
 pub record ScansTo {S : Type 0} (told : S → Option (List ℕ)) (table : Table S) (before now number : ℕ) (entries : List Entry) : Type 0 where
   pub later : before ≤ now
   pub listed : IfSome (told table.file.file) (λ _. (all : List Entry) → (stands : Stands told table all) → entries ≡ items_of (take number stands.blocks))
+  pub read : IfSome (told table.file.file) (λ bytes. table.file.len ≡ length bytes → (blocks : List (List Entry))
+      × AreRead table.file.id bytes 0 (take number table.index) blocks × (entries ≡ items_of blocks))
 
 pub none-scanned : {S : Type 0} (told : S → Option (List ℕ)) (table : Table S) (entries : List Entry) → entries ≡ []
     → IfSome (told table.file.file) (λ _. (all : List Entry) → (stands : Stands told table all) → entries ≡ items_of (take 0 stands.blocks))

@@ -1,13 +1,17 @@
--- What is written as a payload is read again.
-use Rattle.std.proofs.Common.{◌≡◌, ℕ, ◌<◌, ◌≤◌, ◌^◌, Bool, true, false, eqb, List, [], ◌++◌, length, take, drop, refl, sym, ap, ◌∙◌, arith, append_assoc, Ok}
+-- What is written as a payload is read again, and what is read of one was written so.
+use Rattle.std.proofs.Common.{◌≡◌, ℕ, zero, suc, ◌<◌, ◌≤◌, ◌^◌, Bool, true, false, cond, eqb, ltb, List, [], ◌++◌, length, take, drop, refl, sym, ap, ◌∙◌, arith, append_assoc, Result, Ok, Err}
 use Rattle.std.proofs.Math.Nat.{mod-eq_of_lt}
-use Rattle.std.proofs.lemmas.Bool.{lt-ltb, le-ltb, eq-eqb}
-use Rattle.std.proofs.lemmas.List.{append-nil, drop_at, take_at, length-append}
-use Rattle.mg_frame.specs.BigEndian.{big_endian, big_endian_value}
-use Rattle.mg_frame.proofs.BigEndianLaws.{big_endian_value-big_endian, length-big_endian}
+use Rattle.std.proofs.lemmas.Bool.{lt-ltb, le-ltb, ltb-true, ltb-false, eq-eqb, eqb-true}
+use Rattle.std.proofs.lemmas.List.{append-nil, drop_at, take_at, take-append-drop, length-append, length-drop}
+use Rattle.mg_frame.specs.BigEndian.{big_endian, big_endian_value, AreBytes}
+use Rattle.mg_frame.proofs.BigEndianLaws.{big_endian_value-big_endian, drop_past, front_back, length-big_endian, AreBytes-drop}
 use Rattle.mg_table.specs.Entries.{flag, payload_of, IsEntry}
 use Rattle.mg_table.specs.Payload.{judged_numbers, judged_payload, numbers_of}
 use Rattle.mg_table.specs.declared.entry.Entry.{Entry}
+use Rattle.mg_table.specs.declared.entry.Payload.{Payload}
+use Rattle.mg_table.specs.declared.entry.Refused.{Refused}
+use Rattle.mg_table.specs.declared.entry.Refused.TheVariants.{Number, Form}
+use Rattle.mg_table.proofs.PlaceLaws.{none_left}
 
 flag-back : (gone : Bool) → eqb (flag gone) 1 ≡ gone
 flag-back true = refl
@@ -44,3 +48,90 @@ payload-read entry is =
     ∙ value-front 1 (flag entry.gone) [] (omega (arith, flag-small entry.gone)) in
     let len : length ((seq ++ size) ++ gone) ≡ 13 = omega (arith, length-append (seq ++ size) gone, front, length-big_endian 1 (flag entry.gone)) in
     rw (eq-eqb (length ((seq ++ size) ++ gone)) 13 len, first, second, third) (judged_numbers-in_range entry is)
+
+-- ---- what is read of any payload
+
+front-spelled : (width : ℕ) (bytes : List ℕ) → width ≤ length bytes → AreBytes bytes → bytes ≡ big_endian width (big_endian_value (take width bytes)) ++ drop width bytes
+front-spelled width bytes long are = sym (ap (λ xs. xs ++ drop width bytes) (front_back width bytes long are) ∙ take-append-drop width bytes)
+
+flag-spelled : (gone : ℕ) → gone ≤ 1 → flag (eqb gone 1) ≡ gone
+flag-spelled zero small = refl
+flag-spelled (suc zero) small = refl
+flag-spelled (suc (suc gone)) small = absurd (omega (arith, small))
+
+-- the numbers of a payload are in range, and these are they
+pub record IsTaken (seq size gone : ℕ) (payload : Payload) : Type 0 where
+  pub seq_to : seq < 2 ^ 62
+  pub size_from : 1 ≤ size
+  pub size_to : size ≤ 1048826
+  pub gone_to : gone ≤ 1
+  pub is : payload ≡ record { seq = seq; size = size; gone = eqb gone 1 }
+
+taken-by : (seq size gone : ℕ) (payload : Payload) (a b c d : Bool) → ltb seq (2 ^ 62) ≡ a → ltb size 1 ≡ b → ltb 1048826 size ≡ c → ltb 1 gone ≡ d
+    → (let taken : Result Payload Refused = Ok (record { seq = seq; size = size; gone = eqb gone 1 }) in
+    let form : Result Payload Refused = Err Form in
+    let number : Result Payload Refused = Err (Number seq) in
+    cond a (cond b form (cond c form (cond d form taken))) number ≡ Ok payload)
+    → IsTaken seq size gone payload
+taken-by seq size gone payload false b c d x y z w is = absurd cc
+taken-by seq size gone payload true true c d x y z w is = absurd cc
+taken-by seq size gone payload true false true d x y z w is = absurd cc
+taken-by seq size gone payload true false false true x y z w is = absurd cc
+taken-by seq size gone payload true false false false x y z w is = record {
+  seq_to = ltb-true seq (2 ^ 62) x;
+  size_from = ltb-false size 1 y;
+  size_to = ltb-false 1048826 size z;
+  gone_to = ltb-false 1 gone w;
+  is = cc;
+}
+
+-- the entry of a key and the numbers of a payload
+abbrev pub entry_with : List ℕ → Payload → Entry
+entry_with key payload = record { key = key; seq = payload.seq; size = payload.size; gone = payload.gone }
+
+spelled-again : (bytes key : List ℕ) (seq size gone : ℕ) (payload : Payload) → IsTaken seq size gone payload
+    → bytes ≡ big_endian 8 seq ++ (big_endian 4 size ++ big_endian 1 gone) → (bytes ≡ payload_of (entry_with key payload)) × IsEntry (entry_with key payload)
+unfolding payload_of
+spelled-again bytes key seq size gone payload t spelled =
+    let one : payload.seq ≡ seq = ap (λ (p : Payload). p.seq) t.is in
+    let two : payload.size ≡ size = ap (λ (p : Payload). p.size) t.is in
+    let three : flag payload.gone ≡ gone = ap (λ (p : Payload). flag p.gone) t.is ∙ flag-spelled gone t.gone_to in (
+      spelled ∙ sym (append_assoc (big_endian 8 seq) (big_endian 4 size) (big_endian 1 gone))
+      ∙ ap (λ n. (big_endian 8 n ++ big_endian 4 size) ++ big_endian 1 gone) (sym one)
+      ∙ ap (λ n. (big_endian 8 payload.seq ++ big_endian 4 n) ++ big_endian 1 gone) (sym two)
+      ∙ ap (λ n. (big_endian 8 payload.seq ++ big_endian 4 payload.size) ++ big_endian 1 n) (sym three),
+      record { seq = omega (arith, one, t.seq_to); size_from = omega (arith, two, t.size_from); size_to = omega (arith, two, t.size_to) },
+    )
+
+three-fields : (bytes : List ℕ) → length bytes ≡ 13 → AreBytes bytes
+    → bytes ≡ big_endian 8 (big_endian_value (take 8 bytes)) ++ (big_endian 4 (big_endian_value (take 4 (drop 8 bytes))) ++ big_endian 1 (big_endian_value (take 1 (drop 12 bytes))))
+three-fields bytes len are =
+    let tail = drop 8 bytes in
+    let last = drop 12 bytes in
+    let twelve : drop 4 tail ≡ last = drop_past bytes 8 4 in
+    let none : drop 1 last ≡ [] = none_left (drop 1 last) (omega (arith, length-drop 1 last, length-drop 12 bytes, len)) in
+    let one = front-spelled 8 bytes (omega (arith, len)) are in
+    let two = front-spelled 4 tail (omega (arith, length-drop 8 bytes, len)) (AreBytes-drop 8 bytes are) in
+    let three = front-spelled 1 last (omega (arith, length-drop 12 bytes, len)) (AreBytes-drop 12 bytes are) in
+    one
+    ∙ ap (λ xs. big_endian 8 (big_endian_value (take 8 bytes)) ++ xs)
+    (two
+    ∙ ap (λ xs. big_endian 4 (big_endian_value (take 4 tail)) ++ xs)
+    (twelve ∙ three ∙ ap (λ xs. big_endian 1 (big_endian_value (take 1 last)) ++ xs) none ∙ append-nil (big_endian 1 (big_endian_value (take 1 last)))))
+
+judged-by : (bytes key : List ℕ) (payload : Payload) (b : Bool) → eqb (length bytes) 13 ≡ b → AreBytes bytes
+    → (let form : Result Payload Refused = Err Form in
+    cond b (judged_numbers (big_endian_value (take 8 bytes)) (big_endian_value (take 4 (drop 8 bytes))) (big_endian_value (take 1 (drop 12 bytes)))) form ≡ Ok payload)
+    → (bytes ≡ payload_of (entry_with key payload)) × IsEntry (entry_with key payload)
+judged-by bytes key payload false test are is = absurd cc
+judged-by bytes key payload true test are is =
+    let seq = big_endian_value (take 8 bytes) in
+    let size = big_endian_value (take 4 (drop 8 bytes)) in
+    let gone = big_endian_value (take 1 (drop 12 bytes)) in
+    spelled-again bytes key seq size gone payload (taken-by seq size gone payload _ _ _ _ refl refl refl refl is) (three-fields bytes (eqb-true (length bytes) 13 test) are)
+
+-- a payload that is not refused is that of an entry in range, whatever the key
+pub payload-back : (bytes key : List ℕ) (payload : Payload) → AreBytes bytes → judged_payload bytes ≡ Ok payload
+    → (bytes ≡ payload_of (entry_with key payload)) × IsEntry (entry_with key payload)
+unfolding judged_payload
+payload-back bytes key payload are is = judged-by bytes key payload _ refl are is

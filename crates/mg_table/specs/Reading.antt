@@ -1,9 +1,20 @@
 -- What is read of a table.
-use Rattle.std.specs.Prelude.{ℕ, List, find, Any, Option}
+use Rattle.std.specs.Prelude.{◌≡◌, ℕ, ◌+◌, ◌<◌, ◌^◌, ◌⊎◌, List, [], ◌∷◌, ◌++◌, length, map, take, find, Any, All, HoldsAt, Option, Result, Ok, Err}
 use Rattle.std.specs.Str.{bytes_eq}
+use Rattle.mg_block.specs.Block.{Begins, BreaksAt}
+use Rattle.mg_block.specs.Search.{Breaks, Finds}
+use Rattle.mg_block.specs.declared.pair.Pair.{Pair}
 use Rattle.mg_model.specs.declared.faults.Fault.{Fault}
+use Rattle.mg_model.specs.declared.faults.Fault.TheVariants.{Damaged, Malformed}
+use Rattle.mg_model.specs.declared.faults.FileId.{FileId}
+use Rattle.mg_sealed.specs.Blocks as sealed
 use Rattle.mg_sealed.specs.Blocks.{IsUnfitAt}
+use Rattle.mg_table.specs.Entries.{block_body, pair_of, AreEntries, IsEntry}
+use Rattle.mg_table.specs.Payload.{judged_payload}
 use Rattle.mg_table.specs.declared.entry.Entry.{Entry}
+use Rattle.mg_table.specs.declared.entry.Refused.{Refused}
+use Rattle.mg_table.specs.declared.entry.Refused.TheVariants.{Number, Form}
+use Rattle.mg_table.specs.declared.index.BlockPlace.{BlockPlace}
 use Rattle.mg_table.specs.declared.table.Table.{Table}
 
 -- the entry of a key among entries
@@ -13,3 +24,55 @@ entry_of key entries = find (λ entry. bytes_eq entry.key key) entries
 -- what stands at the place of some block of the table is damaged or malformed
 abbrev pub HasUnfit : {S : Type 0} → Table S → Fault → Type 0
 HasUnfit table fault = Any (λ place. IsUnfitAt table.file.id place.at fault) table.index
+
+-- the body of the block of this number whose place is in the index, or what is damaged or malformed there
+abbrev pub read_at : FileId → List ℕ → BlockPlace → ℕ → Result (List ℕ) Fault
+read_at id bytes place number = sealed.block_body id bytes place.at place.len number
+
+-- the fault of a payload in the block at this place, of which this is wrong
+abbrev pub payload_fault : FileId → ℕ → Refused → Fault
+payload_fault id at (Number number) = Damaged id at number (2 ^ 62)
+payload_fault id at Form = Malformed id at
+
+-- a payload in the block at this place is refused for this
+abbrev pub IsPayloadRefused : FileId → ℕ → List ℕ → Fault → Type 0
+IsPayloadRefused id at payload fault = (refused : Refused) × (judged_payload payload ≡ Err refused) × (fault ≡ payload_fault id at refused)
+
+-- What is wrong with a block at this place in which a key is sought: behind smaller keys it breaks, or the key's payload is refused.
+abbrev pub IsSearchUnfit : FileId → ℕ → List ℕ → List ℕ → Fault → Type 0
+IsSearchUnfit id at body key fault =
+    ((place : ℕ) × Breaks body key place × (fault ≡ Malformed id at))
+    ⊎ ((payload : List ℕ) × Finds body key payload × IsPayloadRefused id at payload fault)
+
+-- What is wrong with a block at this place whose entries are listed: behind entries that are right it breaks, or the payload of the
+-- next pair is refused.
+abbrev pub IsListUnfit : FileId → ℕ → List ℕ → Fault → Type 0
+IsListUnfit id at body fault =
+    (front : List Entry) × All IsEntry front
+    × (((place : ℕ) × BreaksAt body (map pair_of front) place × (fault ≡ Malformed id at))
+    ⊎ ((pair : Pair) × (rest : List ℕ) × Begins body (map pair_of front ++ pair ∷ []) rest × IsPayloadRefused id at pair.payload fault))
+
+-- why the block of this number is refused: its frame, or this of its body
+abbrev pub IsBlockRefused : {S : Type 0} → Table S → List ℕ → ℕ → (ℕ → List ℕ → Fault → Type 0) → Fault → Type 0
+IsBlockRefused table bytes number IsBodyUnfit fault =
+    (number < length table.index)
+    × HoldsAt (λ place. (read_at table.file.id bytes place number ≡ Err fault)
+    ⊎ ((body : List ℕ) × (read_at table.file.id bytes place number ≡ Ok body) × IsBodyUnfit place.at body fault)) table.index number
+
+-- why a key is not found in a table whose file has these bytes: one block is refused
+abbrev pub IsFindRefused : {S : Type 0} → Table S → List ℕ → List ℕ → Fault → Type 0
+IsFindRefused table bytes key fault = (number : ℕ) × IsBlockRefused table bytes number (λ at body. IsSearchUnfit table.file.id at body key) fault
+
+-- the blocks at these places, of which the first has this number, are those of these entries
+abbrev pub AreRead : FileId → List ℕ → ℕ → List BlockPlace → List (List Entry) → Type 0
+AreRead id bytes number [] [] = Unit {0}
+AreRead id bytes number [] (_ ∷ _) = ⊥
+AreRead id bytes number (_ ∷ _) [] = ⊥
+AreRead id bytes number (place ∷ places) (block ∷ blocks) =
+    (read_at id bytes place number ≡ Ok (block_body block)) × AreEntries block × AreRead id bytes (number + 1) places blocks
+
+-- why a table whose file has these bytes is not listed: behind blocks that are right, one is refused
+abbrev pub IsScanRefused : {S : Type 0} → Table S → List ℕ → Fault → Type 0
+IsScanRefused table bytes fault =
+    (before : List (List Entry)) × AreRead table.file.id bytes 0 (take (length before) table.index) before
+    × IsBlockRefused table bytes (length before) (λ at body. IsListUnfit table.file.id at body) fault

@@ -1,14 +1,16 @@
 //! Finding an entry, and listing all.
 
-ghost use Rattle.std.specs.Prelude.{◌≡◌, ◌-◌, ◌<◌, ◌≤◌, ◌⊎◌, List, ◌++◌, length, map, All, HoldsAt, IfSome, IfErr, MatchOption, MatchResult, None, Ok};
+ghost use Rattle.std.specs.Prelude.{◌≡◌, ◌-◌, ◌<◌, ◌≤◌, ◌⊎◌, List, ◌++◌, length, map, All, HoldsAt, IfSome, IfErr, IfOk, OnOk, MatchOption, MatchResult, None, Ok};
 ghost use Rattle.mg_block.specs.Block.{IsBlock, Precedes};
+ghost use Rattle.mg_block.specs.Search.{Finds, Misses};
 ghost use Rattle.mg_bloom.specs.Bloom.{key_words};
 ghost use Rattle.mg_faults.specs.Causes.{HasCause};
 ghost use Rattle.mg_sealed.specs.Answers.{Answers, IsOutside};
 ghost use Rattle.mg_sealed.specs.Blocks.{IsUnfitAt};
+ghost use Rattle.mg_sealed.specs.Filling.{items_of};
 ghost use Rattle.mg_table.specs.Entries.{pair_of, payload_of, IsEntry};
 ghost use Rattle.mg_table.specs.Index.{places_from};
-ghost use Rattle.mg_table.specs.Reading.{entry_of, HasUnfit};
+ghost use Rattle.mg_table.specs.Reading.{entry_of, AreRead, HasUnfit, IsFindRefused, IsListUnfit, IsPayloadRefused, IsScanRefused, IsSearchUnfit};
 ghost use Rattle.mg_table.specs.Table.{IsTableOf, Stands};
 ghost use Rattle.mg_table.specs.declared.entry.Entry.{Entry};
 
@@ -37,6 +39,8 @@ pub fn find<F: Files>(
     ensures found { IfSome (F.told table.now.file.file) (λ _. (entries : List Entry) → Stands F.told table.now entries →
         Answers (Ok (entry_of key.now entries)) result) }
     ensures refusals { IfErr result (λ fault. IsOutside fault ⊎ HasUnfit table.now fault) }
+    ensures causes { IfErr result (λ fault. IfSome (F.told table.now.file.file) (λ bytes. table.now.file.len ≡ length bytes →
+        IsOutside fault ⊎ IsFindRefused table.now bytes key.now fault)) }
     ensures cause { HasCause Fault.ReadFault (F.faults port.old) (F.faults port.new) result }
 {
     find_hashed(alloc, port, table, key, &HashedKey::new(key.bytes()))
@@ -54,6 +58,8 @@ pub fn find_hashed<F: Files>(
     ensures found { IfSome (F.told table.now.file.file) (λ _. (entries : List Entry) → Stands F.told table.now entries →
         Answers (Ok (entry_of key.now entries)) result) }
     ensures refusals { IfErr result (λ fault. IsOutside fault ⊎ HasUnfit table.now fault) }
+    ensures causes { IfErr result (λ fault. IfSome (F.told table.now.file.file) (λ bytes. table.now.file.len ≡ length bytes →
+        IsOutside fault ⊎ IsFindRefused table.now bytes key.now fault)) }
     ensures cause { HasCause Fault.ReadFault (F.faults port.old) (F.faults port.new) result }
 {
     let Some(number) = block_for(table, key, hashed) else {
@@ -109,7 +115,11 @@ fn find_in_block(
 ) -> Result<Option<Entry>, Fault>
     ensures in_block { (entries : List Entry) → All IsEntry entries → IsBlock block.now (map pair_of entries) →
         MatchResult result (λ found. found ≡ entry_of key.now entries) (λ fault. fault ≡ Fault.NoMemory) }
+    ensures read { IfOk result (λ found. MatchOption found
+        (Misses block.now key.now)
+        (λ entry. (entry.key ≡ key.now) × IsEntry entry × Finds block.now key.now (payload_of entry))) }
     ensures refusals { IfErr result (λ fault. (fault ≡ Fault.NoMemory) ⊎ IsUnfitAt id at fault) }
+    ensures causes { IfErr result (λ fault. (fault ≡ Fault.NoMemory) ⊎ IsSearchUnfit id at block.now key.now fault) }
 {
     let mut payload = [0; 255];
     match mg_block::find(block, key.bytes(), &mut payload) {
@@ -126,7 +136,9 @@ fn find_in_block(
 /// The entry of a key and a payload in the block at a place of a file.
 fn entry_from(id: FileId, at: u64, key: Key, payload: &[u8]) -> Result<Entry, Fault>
     ensures written { (entry : Entry) → IsEntry entry → key ≡ entry.key → payload.now ≡ payload_of entry → result ≡ Ok entry }
+    ensures read { IfOk result (λ entry. (entry.key ≡ key) × IsEntry entry × (payload.now ≡ payload_of entry)) }
     ensures refusals { IfErr result (λ fault. IsUnfitAt id at fault) }
+    ensures causes { IfErr result (λ fault. IsPayloadRefused id at payload.now fault) }
 {
     match take_payload(payload) {
         Ok(Payload { seq, size, gone }) => Ok(Entry {
@@ -156,7 +168,11 @@ pub fn scan<F: Files>(
 ) -> Result<Items<Entry>, Fault>
     ensures listed { IfSome (F.told table.now.file.file) (λ _. (entries : List Entry) → Stands F.told table.now entries →
         Answers (Ok entries) result) }
+    ensures read { IfOk result (λ entries. IfSome (F.told table.now.file.file) (λ bytes. table.now.file.len ≡ length bytes →
+        (blocks : List (List Entry)) × AreRead table.now.file.id bytes 0 table.now.index blocks × (entries ≡ items_of blocks))) }
     ensures refusals { IfErr result (λ fault. IsOutside fault ⊎ HasUnfit table.now fault) }
+    ensures causes { IfErr result (λ fault. IfSome (F.told table.now.file.file) (λ bytes. table.now.file.len ≡ length bytes →
+        IsOutside fault ⊎ IsScanRefused table.now bytes fault)) }
     ensures cause { HasCause Fault.ReadFault (F.faults port.old) (F.faults port.new) result }
 {
     let mut entries = Items::new(alloc);
@@ -178,7 +194,10 @@ fn list_block(
 ) -> Result<(), Fault>
     ensures in_block { (listed : List Entry) → All IsEntry listed → IsBlock block.now (map pair_of listed) →
         MatchResult result (λ _. entries.new ≡ entries.old ++ listed) (λ fault. fault ≡ Fault.NoMemory) }
+    ensures read { OnOk result ((listed : List Entry) × (entries.new ≡ entries.old ++ listed)
+        × IsBlock block.now (map pair_of listed) × All IsEntry listed) }
     ensures refusals { IfErr result (λ fault. (fault ≡ Fault.NoMemory) ⊎ IsUnfitAt id at fault) }
+    ensures causes { IfErr result (λ fault. (fault ≡ Fault.NoMemory) ⊎ IsListUnfit id at block.now fault) }
 {
     let malformed = Fault::Malformed { file: id, at };
     let mut cursor = BlockCursor::new(block);

@@ -1,9 +1,13 @@
-use Rattle.std.proofs.Common.{◌≡◌, ◌∙◌, ℕ, List, [], get_or, map, sym, ap, subst, arith}
+use Rattle.std.proofs.Common.{◌⊎◌, ◌≡◌, ◌∙◌, ℕ, List, [], get_or, map, sym, ap, subst, arith}
 use Rattle.std.proofs.lemmas.Grind.{common_steps}
 use Rattle.mg_block.specs.Block.{IsBlock}
 use Rattle.mg_table.specs.Entries.{pair_of}
-use Rattle.mg_table.specs.Reading.{entry_of}
-use Rattle.mg_sealed.proofs.AnswerLaws.{outside}
+use Rattle.mg_table.specs.Reading.{entry_of, IsFindRefused, IsSearchUnfit}
+use Rattle.mg_model.specs.declared.faults.Fault.TheVariants.{NoMemory}
+use Rattle.mg_sealed.specs.Answers.{IsOutside}
+use Rattle.mg_sealed.proofs.AnswerLaws.{err_is, err_then, outside}
+use Rattle.mg_table.proofs.CauseLaws.{body_refused, find_refused, frame_refused}
+use Rattle.mg_table.proofs.RefusalLaws.{Under}
 use Rattle.mg_table.proofs.ReadingLaws.{answers-from, block-answered, block-refused, told-then}
 use Rattle.mg_table.proofs.reading.find_hashed.Goals as goal
 
@@ -34,3 +38,32 @@ returns-clause-found g c =
     answers-from (entry_of key entries) (entry_of key block) c.find_in_block.result one
     (c.find_in_block.ensures.in_block block read.1 (subst (λ (b : List ℕ). IsBlock b (map pair_of block)) (sym c.body.ensures) read.0)))
     c.in_ok-frame.ensures.told
+
+pub returns-in_err-frame-clause-causes : goal.returns-in_err-frame-clause-causes
+returns-in_err-frame-clause-causes g c =
+    let table = c.args.table.now in
+    let key = c.args.key.now in
+    let told = g.F.Files.told table.file.file in
+    let number = c.in-Some.number in
+    let place = c.index-as_slice-number.result in
+    let is : place ≡ get_or table.index number place = c.index-as_slice-number.is ∙ ap (λ ps. get_or ps number place) c.as_slice.ensures in
+    let fault = c.in_err-frame.field-0.0 in
+    err_is c.from_residual.result fault (λ f. Under told table.file.len (λ bytes. IsOutside f ⊎ IsFindRefused table bytes key f)) (grind (arith, common_steps))
+    (find_refused told table key number fault
+    (frame_refused told table number place (λ at body. IsSearchUnfit table.file.id at body key) fault c.in-Some.ensures.within is c.in_err-frame.ensures.told))
+
+pub returns-clause-causes : goal.returns-clause-causes
+returns-clause-causes g c =
+    let table = c.args.table.now in
+    let key = c.args.key.now in
+    let told = g.F.Files.told table.file.file in
+    let number = c.in-Some.number in
+    let place = c.index-as_slice-number.result in
+    let is : place ≡ get_or table.index number place = c.index-as_slice-number.is ∙ ap (λ ps. get_or ps number place) c.as_slice.ensures in
+    let id = table.file.id in
+    err_then c.find_in_block.result (λ fault. (fault ≡ NoMemory) ⊎ IsSearchUnfit id place.at c.body.result.now key fault)
+    (λ fault. Under told table.file.len (λ bytes. IsOutside fault ⊎ IsFindRefused table bytes key fault))
+    (λ fault same why. find_refused told table key number fault
+    (body_refused told table number place (λ at body. IsSearchUnfit id at body key) fault c.in_ok-frame.frame c.in-Some.ensures.within is
+    (subst (λ (body : List ℕ). (fault ≡ NoMemory) ⊎ IsSearchUnfit id place.at body key fault) c.body.ensures why) c.in_ok-frame.ensures.told))
+    c.find_in_block.ensures.causes

@@ -1,9 +1,15 @@
-use Rattle.std.proofs.Common.{◌≡◌, ◌∙◌, ◌<◌, ◌≤◌, ℕ, List, [], length, get_or, map, inl, sym, ap, subst, arith}
+use Rattle.std.proofs.Common.{◌⊎◌, take, ◌≡◌, ◌∙◌, ◌<◌, ◌≤◌, ℕ, List, [], length, get_or, map, inl, sym, ap, subst, arith}
+use Rattle.std.proofs.lemmas.List.{take_all}
 use Rattle.std.proofs.lemmas.Grind.{common_steps}
 use Rattle.mg_block.specs.Block.{IsBlock}
 use Rattle.mg_table.specs.Entries.{pair_of}
 use Rattle.mg_table.proofs.ListingLaws.{scanned-all, scanned-more}
-use Rattle.mg_sealed.proofs.AnswerLaws.{outside, some_both}
+use Rattle.mg_model.specs.declared.faults.Fault.TheVariants.{NoMemory}
+use Rattle.mg_sealed.specs.Answers.{IsOutside}
+use Rattle.mg_sealed.proofs.AnswerLaws.{err_is, outside, some_both}
+use Rattle.mg_table.specs.Reading.{AreRead, IsListUnfit, IsScanRefused}
+use Rattle.mg_table.proofs.CauseLaws.{body_refused, frame_refused, reads-more, scan_refused, ReadsTo}
+use Rattle.mg_table.proofs.RefusalLaws.{under_then, Under}
 use Rattle.mg_table.proofs.ReadingLaws.{block-answered, block-refused, length-places_from, told-then}
 use Rattle.mg_table.proofs.reading.scan.Goals as goal
 
@@ -52,6 +58,10 @@ loop-number-preserved g c =
           scanned-more stands.blocks number c.loop-number.entries c.list_block.new.entries inside (known.1 all stands)
           (c.in_ok-list_block.ensures.in_block block read.1 (subst (λ (b : List ℕ). IsBlock b (map pair_of block)) (sym c.body.ensures) read.0)))
           (some_both (told table.file.file) _ _ c.in_ok-frame.ensures.told c.loop-number.invariant.listed);
+      read =
+          let l = c.in_ok-list_block.ensures.read in
+          reads-more (told table.file.file) table number place c.in_ok-frame.frame c.loop-number.entries c.list_block.new.entries l.0 within is l.1
+          (subst (λ (b : List ℕ). IsBlock b (map pair_of l.0)) c.body.ensures l.2) l.3 c.in_ok-frame.ensures.told c.loop-number.invariant.read;
     }
 
 pub returns-clause-listed : goal.returns-clause-listed
@@ -64,3 +74,39 @@ returns-clause-listed g c =
     let same : all ≡ c.loop-number.entries = scanned-all told table all stands number c.loop-number.entries past (listed all stands) in
     cc)
     c.loop-number.invariant.listed
+
+pub returns-in_err-frame-clause-causes : goal.returns-in_err-frame-clause-causes
+returns-in_err-frame-clause-causes g c =
+    let table = c.args.table.now in
+    let told = g.F.Files.told table.file.file in
+    let number = c.loop-number.number in
+    let place = c.index-as_slice-number.result in
+    let within : number < length table.index = omega (arith, c.len-number-end.ensures) in
+    let is : place ≡ get_or table.index number place = c.index-as_slice-number.is ∙ ap (λ ps. get_or ps number place) c.as_slice.ensures in
+    let fault = c.in_err-frame.field-0.0 in
+    err_is c.from_residual.result fault (λ f. Under told table.file.len (λ bytes. IsOutside f ⊎ IsScanRefused table bytes f)) (grind (arith, common_steps))
+    (scan_refused told table number c.loop-number.entries fault within c.loop-number.invariant.read
+    (frame_refused told table number place (λ at body. IsListUnfit table.file.id at body) fault within is c.in_err-frame.ensures.told))
+
+pub returns-in_err-list_block-clause-causes : goal.returns-in_err-list_block-clause-causes
+returns-in_err-list_block-clause-causes g c =
+    let table = c.args.table.now in
+    let told = g.F.Files.told table.file.file in
+    let number = c.loop-number.number in
+    let place = c.index-as_slice-number.result in
+    let within : number < length table.index = omega (arith, c.len-number-end.ensures) in
+    let is : place ≡ get_or table.index number place = c.index-as_slice-number.is ∙ ap (λ ps. get_or ps number place) c.as_slice.ensures in
+    let fault = c.in_err-list_block.field-0.0 in
+    let why = subst (λ (body : List ℕ). (fault ≡ NoMemory) ⊎ IsListUnfit table.file.id place.at body fault) c.body.ensures c.in_err-list_block.ensures.causes in
+    err_is c.from_residual-in_err-list_block.result fault (λ f. Under told table.file.len (λ bytes. IsOutside f ⊎ IsScanRefused table bytes f)) (grind (arith, common_steps))
+    (scan_refused told table number c.loop-number.entries fault within c.loop-number.invariant.read
+    (body_refused told table number place (λ at body. IsListUnfit table.file.id at body) fault c.in_ok-frame.frame within is why c.in_ok-frame.ensures.told))
+
+pub returns-clause-read : goal.returns-clause-read
+returns-clause-read g c =
+    let table = c.args.table.now in
+    let told = g.F.Files.told table.file.file in
+    let number = c.loop-number.number in
+    let whole : take number table.index ≡ table.index = take_all number table.index (omega (arith, c.len-number-end.ensures)) in
+    under_then told table.file.len (ReadsTo table number c.loop-number.entries) _
+    (λ bytes same h. (h.0, subst (λ ps. AreRead table.file.id bytes 0 ps h.0) whole h.1, h.2)) c.loop-number.invariant.read
