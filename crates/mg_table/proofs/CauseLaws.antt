@@ -1,11 +1,12 @@
 -- Why a key is not found, or a table is not listed, and what is read of its blocks.
-use Rattle.std.proofs.Common.{◌≡◌, ℕ, ◌+◌, ◌<◌, ◌≤◌, ◌⊎◌, zero, suc, Bool, true, false, List, [], ◌∷◌, ◌++◌, length, get_or, map, take, refl, sym, ap, subst, ◌∙◌, inl, inr, arith, Option, Some, None, IfSome, Result, Ok, Err, IfErr, IfOk, MatchBool}
+use Rattle.std.proofs.Common.{◌≡◌, ℕ, ◌+◌, ◌<◌, ◌≤◌, ◌⊎◌, zero, suc, Bool, true, false, List, [], ◌∷◌, ◌++◌, length, get_or, map, take, refl, sym, ap, subst, ◌∙◌, inl, inr, arith, Option, Some, None, IfSome, Result, Ok, Err, IfErr, IfOk, MatchBool, MatchOption}
 use Rattle.std.proofs.lemmas.List.{append-nil, length-take-le, take_more}
 use Rattle.std.proofs.lemmas.List.Elements.{at_read}
 use Rattle.std.specs.List.{All}
 use Rattle.std.specs.Result.{result_or}
 use Rattle.mg_block.specs.Block.{Begins, BreaksAt, IsBlock}
 use Rattle.mg_block.specs.Cursor.{Advances, Reading}
+use Rattle.mg_block.specs.Search.{Finds, Misses}
 use Rattle.mg_block.specs.View.{last_pair}
 use Rattle.mg_block.specs.declared.pair.NotABlock.{NotABlock}
 use Rattle.mg_block.specs.declared.pair.Pair.{Pair}
@@ -15,8 +16,8 @@ use Rattle.mg_model.specs.declared.faults.Fault.TheVariants.{Malformed, NoMemory
 use Rattle.mg_model.specs.declared.faults.FileId.{FileId}
 use Rattle.mg_sealed.specs.Answers.{Answers, IsOutside}
 use Rattle.mg_sealed.specs.Filling.{items_of}
-use Rattle.mg_table.specs.Entries.{block_body, pair_of, AreEntries, IsEntry}
-use Rattle.mg_table.specs.Reading.{read_at, AreRead, IsBlockRefused, IsFindRefused, IsListUnfit, IsPayloadRefused, IsScanRefused, IsSearchUnfit}
+use Rattle.mg_table.specs.Entries.{block_body, pair_of, payload_of, AreEntries, IsEntry}
+use Rattle.mg_table.specs.Reading.{read_at, AreRead, HasBody, IsBlockRefused, IsFindRead, IsFindRefused, IsListUnfit, IsPayloadRefused, IsScanRefused, IsSearchUnfit, IsSoughtIn}
 use Rattle.mg_table.specs.declared.entry.Entry.{Entry}
 use Rattle.mg_table.specs.declared.index.BlockPlace.{BlockPlace}
 use Rattle.mg_table.specs.declared.table.Table.{Table}
@@ -54,23 +55,32 @@ body_refused told table k place Unfit fault frame within there why known =
     ]) known
 
 -- a block that is refused keeps its table from finding a key
-pub find_refused : {S : Type 0} (told : Option (List ℕ)) (table : Table S) (key : List ℕ) (k : ℕ) (fault : Fault)
+pub find_refused : {S : Type 0} (told : Option (List ℕ)) (table : Table S) (key : List ℕ) (k : ℕ) (fault : Fault) → IsSoughtIn table key k
     → Under told table.file.len (λ bytes. IsOutside fault ⊎ IsBlockRefused table bytes k (λ at body. IsSearchUnfit table.file.id at body key) fault)
     → Under told table.file.len (λ bytes. IsOutside fault ⊎ IsFindRefused table bytes key fault)
-find_refused told table key k fault known =
+find_refused told table key k fault sought known =
     under_then told table.file.len (λ bytes. IsOutside fault ⊎ IsBlockRefused table bytes k (λ at body. IsSearchUnfit table.file.id at body key) fault)
     (λ bytes. IsOutside fault ⊎ IsFindRefused table bytes key fault)
-    (λ bytes same h. elim h [ inl outside ↦ inl outside | inr is ↦ inr (k, is) ]) known
+    (λ bytes same h. elim h [ inl outside ↦ inl outside | inr is ↦ inr (k, sought, is) ]) known
+
+-- what is so of the body that was read is so of a body at the place in the index
+body-at : {S : Type 0} (table : Table S) (bytes : List ℕ) (k : ℕ) (place : BlockPlace) (frame : List ℕ) (P : List ℕ → Type 0) → k < length table.index
+    → place ≡ get_or table.index k place → read_at table.file.id bytes place k ≡ Ok frame → P frame → HasBody table bytes k P
+body-at table bytes k place frame P within there read is =
+    at_read table.index (λ (p : BlockPlace). (body : List ℕ) × (read_at table.file.id bytes p k ≡ Ok body) × P body) k place within there (frame, read, is)
+
+pub find_read : {S : Type 0} (told : Option (List ℕ)) (table : Table S) (key : List ℕ) (k : ℕ) (place : BlockPlace) (frame : List ℕ) (found : Option Entry) → IsSoughtIn table key k
+    → place ≡ get_or table.index k place
+    → MatchOption found (Misses frame key) (λ entry. (entry.key ≡ key) × IsEntry entry × Finds frame key (payload_of entry))
+    → Under told table.file.len (λ bytes. read_at table.file.id bytes place k ≡ Ok frame) → Under told table.file.len (λ bytes. IsFindRead table bytes key found)
+find_read told table key k place frame None sought there misses read =
+    under_then told table.file.len (λ bytes. read_at table.file.id bytes place k ≡ Ok frame) (λ bytes. IsFindRead table bytes key None)
+    (λ bytes same h. inr (k, sought, body-at table bytes k place frame (λ body. Misses body key) sought.within there h misses)) read
+find_read told table key k place frame (Some entry) sought there is read =
+    under_then told table.file.len (λ bytes. read_at table.file.id bytes place k ≡ Ok frame) (λ bytes. IsFindRead table bytes key (Some entry))
+    (λ bytes same h. (is.0, is.1, (k, sought, body-at table bytes k place frame (λ body. Finds body key (payload_of entry)) sought.within there h is.2))) read
 
 -- ---- what is listed of a block
-
-pub list-breaks : (id : FileId) (at : ℕ) (block : List ℕ) (cursor : Reading) (before now : List Entry) (place : ℕ) (fault : Fault) → Lists block cursor before now
-    → BreaksAt cursor.bytes cursor.read place → fault ≡ Malformed id at → IsListUnfit id at block fault
-list-breaks id at block cursor before now place fault lists breaks is =
-    let right = lists.right in
-    let here : BreaksAt block (map pair_of right.front) place =
-    subst (λ ps. BreaksAt block ps place) right.read_is (subst (λ bs. BreaksAt bs cursor.read place) lists.read.bytes breaks) in
-    (right.front, right.each, inl (place, here, is))
 
 pub list-refused : (id : FileId) (at : ℕ) (block : List ℕ) (old new : Reading) (before now : List Entry) (payload : List ℕ) (fault : Fault) → Lists block old before now
     → Advances old new → payload ≡ (last_pair new.read).payload → IsPayloadRefused id at payload fault → IsListUnfit id at block fault

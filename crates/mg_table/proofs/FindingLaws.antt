@@ -1,5 +1,5 @@
 -- Which block has a key, and what a filter denies.
-use Rattle.std.proofs.Common.{◌≡◌, ℕ, zero, suc, ◌+◌, ◌-◌, ◌<◌, ◌≤◌, cond, Bool, true, false, List, [], ◌∷◌, ◌++◌, length, get_or, map, replicate, refl, sym, ap, subst, ◌∙◌, arith, Option, Some, None, MatchOption}
+use Rattle.std.proofs.Common.{inr, ◌≡◌, ℕ, zero, suc, ◌+◌, ◌-◌, ◌<◌, ◌≤◌, cond, Bool, true, false, List, [], ◌∷◌, ◌++◌, length, get_or, map, replicate, refl, sym, ap, subst, ◌∙◌, arith, Option, Some, None, MatchOption}
 use Rattle.std.proofs.lemmas.Bool.{and_parts, false_from_ne_true, true≢false}
 use Rattle.std.proofs.lemmas.List.{length-replicate}
 use Rattle.std.proofs.lemmas.List.Elements.{All-head, All-tail}
@@ -18,10 +18,11 @@ use Rattle.mg_sealed.specs.Filling.{AreFilled, items_of}
 use Rattle.mg_table.specs.Entries.{block_body, first_key, pair_of, payload_of, IsEntry}
 use Rattle.mg_table.specs.Filters.{IsFilterOf}
 use Rattle.mg_table.specs.Index.{places_from}
-use Rattle.mg_table.specs.Reading.{entry_of}
+use Rattle.mg_table.specs.Reading.{entry_of, IsSoughtIn, IsSoughtNowhere}
 use Rattle.mg_table.specs.Table.{hashed_keys, IsTableOf}
 use Rattle.mg_table.specs.declared.entry.Entry.{Entry}
 use Rattle.mg_table.specs.declared.index.BlockPlace.{BlockPlace}
+use Rattle.mg_table.specs.declared.table.Table.{Table}
 use Rattle.mg_table.proofs.ReadingLaws.{length-places_from, place-at, RiseAfter-behind}
 
 bytes_eq-apart : (a b : List ℕ) → (a ≡ b → ⊥) → bytes_eq a b ≡ false
@@ -166,6 +167,26 @@ chosen lo hi entries blocks filter key index n (Some number) is indexed within l
     one-of lo hi entries blocks filter key index number is indexed (omega arith)
     (subst (λ (k : ℕ). HoldsAt (λ (place : BlockPlace). Precedes key place.key → ⊥) index k) back (last (omega (arith, before.0))))
     (λ more. subst (λ (k : ℕ). HoldsAt (λ (place : BlockPlace). Precedes key place.key) index k) step (following (omega arith)))
+
+-- where the key is sought, if in any block
+pub sought : {S : Type 0} (table : Table S) (key : List ℕ) (index : List BlockPlace) (n : ℕ) (number : Option ℕ) → index ≡ table.index → has_words table.filter (key_words key) ≡ true
+    → n ≤ length index → (0 < n → HoldsAt (λ place. Precedes key place.key → ⊥) index (n - 1)) → (n < length index → HoldsAt (λ place. Precedes key place.key) index n)
+    → SomeIff number (1 ≤ n) (n - 1) → MatchOption number (IsSoughtNowhere table key) (λ number. IsSoughtIn table key number)
+sought table key index n None same held within last following before =
+    let none : n ≡ 0 = zero-from n before in
+    inr (subst (λ (ps : List BlockPlace). 0 < length ps → HoldsAt (λ (place : BlockPlace). Precedes key place.key) ps 0) same
+    (λ some. subst (λ (k : ℕ). HoldsAt (λ (place : BlockPlace). Precedes key place.key) index k) none (following (omega arith))))
+sought table key index n (Some number) same held within last following before =
+    let back : n - 1 ≡ number = sym before.1 in
+    let step : n ≡ number + 1 = omega (arith, before.0) in
+    record {
+      held = held;
+      within = omega (arith, ap length same);
+      last = subst (λ (ps : List BlockPlace). HoldsAt (λ (place : BlockPlace). Precedes key place.key → ⊥) ps number) same
+          (subst (λ (k : ℕ). HoldsAt (λ (place : BlockPlace). Precedes key place.key → ⊥) index k) back (last (omega (arith, before.0))));
+      following = subst (λ (ps : List BlockPlace). number + 1 < length ps → HoldsAt (λ (place : BlockPlace). Precedes key place.key) ps (number + 1)) same
+          (λ more. subst (λ (k : ℕ). HoldsAt (λ (place : BlockPlace). Precedes key place.key) index k) step (following (omega arith)));
+    }
 
 -- ---- the entry of a payload
 

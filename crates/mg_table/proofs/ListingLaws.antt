@@ -123,13 +123,6 @@ read-more block old new listed a =
     let bytes : new.bytes ≡ block = a.bytes ∙ listed.bytes in
     record { bytes = bytes; read = refl; rest = a.rest; begins = subst (λ b. Begins b new.read a.rest) bytes a.begins }
 
-pub lists-none : (block : List ℕ) (cursor : Reading) (before : List Entry) → cursor.bytes ≡ block → cursor.read ≡ [] → Lists block cursor before before
-lists-none block cursor before bytes none = record {
-  read = Listed-none block cursor cursor.read bytes none none;
-  right = record { front = []; each = All-nil IsEntry; read_is = none; listed = sym (append-nil before) };
-  in_block = λ entries each is. record { front = []; left = entries; parts = refl; read_is = none; listed = sym (append-nil before) };
-}
-
 -- one entry more is listed
 pub right-more : (old new : Reading) (before now more : List Entry) (entry : Entry) → ListsRight old before now → Advances old new → more ≡ now ++ entry ∷ [] → IsEntry entry
     → entry.key ≡ (last_pair new.read).key → payload_of entry ≡ (last_pair new.read).payload → ListsRight new before more

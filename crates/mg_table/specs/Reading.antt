@@ -1,15 +1,16 @@
 -- What is read of a table.
-use Rattle.std.specs.Prelude.{◌≡◌, ℕ, ◌+◌, ◌<◌, ◌^◌, ◌⊎◌, List, [], ◌∷◌, ◌++◌, length, map, take, find, Any, All, HoldsAt, Option, Result, Ok, Err}
+use Rattle.std.specs.Prelude.{◌≡◌, ℕ, ◌+◌, ◌<◌, ◌^◌, ◌⊎◌, Bool, true, false, List, [], ◌∷◌, ◌++◌, length, map, take, find, Any, All, HoldsAt, Option, Some, None, Result, Ok, Err}
 use Rattle.std.specs.Str.{bytes_eq}
-use Rattle.mg_block.specs.Block.{Begins, BreaksAt}
-use Rattle.mg_block.specs.Search.{Breaks, Finds}
+use Rattle.mg_block.specs.Block.{Begins, BreaksAt, Precedes}
+use Rattle.mg_block.specs.Search.{Breaks, Finds, Misses}
 use Rattle.mg_block.specs.declared.pair.Pair.{Pair}
+use Rattle.mg_bloom.specs.Bloom.{has_words, key_words}
 use Rattle.mg_model.specs.declared.faults.Fault.{Fault}
 use Rattle.mg_model.specs.declared.faults.Fault.TheVariants.{Damaged, Malformed}
 use Rattle.mg_model.specs.declared.faults.FileId.{FileId}
 use Rattle.mg_sealed.specs.Blocks as sealed
 use Rattle.mg_sealed.specs.Blocks.{IsUnfitAt}
-use Rattle.mg_table.specs.Entries.{block_body, pair_of, AreEntries, IsEntry}
+use Rattle.mg_table.specs.Entries.{block_body, pair_of, payload_of, AreEntries, IsEntry}
 use Rattle.mg_table.specs.Payload.{judged_payload}
 use Rattle.mg_table.specs.declared.entry.Entry.{Entry}
 use Rattle.mg_table.specs.declared.entry.Refused.{Refused}
@@ -59,9 +60,33 @@ IsBlockRefused table bytes number IsBodyUnfit fault =
     × HoldsAt (λ place. (read_at table.file.id bytes place number ≡ Err fault)
     ⊎ ((body : List ℕ) × (read_at table.file.id bytes place number ≡ Ok body) × IsBodyUnfit place.at body fault)) table.index number
 
--- why a key is not found in a table whose file has these bytes: one block is refused
+-- A key is sought in the block of this number: the filter does not deny the key, and the block is the last that begins with no key
+-- above it.
+pub record IsSoughtIn {S : Type 0} (table : Table S) (key : List ℕ) (number : ℕ) : Type 0 where
+  pub held : has_words table.filter (key_words key) ≡ true
+  pub within : number < length table.index
+  pub last : HoldsAt (λ place. Precedes key place.key → ⊥) table.index number
+  pub following : number + 1 < length table.index → HoldsAt (λ place. Precedes key place.key) table.index (number + 1)
+
+-- a key is sought in no block: the filter denies it, or the first block begins above it
+abbrev pub IsSoughtNowhere : {S : Type 0} → Table S → List ℕ → Type 0
+IsSoughtNowhere table key =
+    (has_words table.filter (key_words key) ≡ false) ⊎ (0 < length table.index → HoldsAt (λ place. Precedes key place.key) table.index 0)
+
+-- the block of this number is read, and this is so of its body
+abbrev pub HasBody : {S : Type 0} → Table S → List ℕ → ℕ → (List ℕ → Type 0) → Type 0
+HasBody table bytes number P = HoldsAt (λ place. (body : List ℕ) × (read_at table.file.id bytes place number ≡ Ok body) × P body) table.index number
+
+-- what is read where this is found of a key: an entry, behind smaller keys of its block; or none, in no block or in the key's block
+abbrev pub IsFindRead : {S : Type 0} → Table S → List ℕ → List ℕ → Option Entry → Type 0
+IsFindRead table bytes key None = IsSoughtNowhere table key ⊎ ((number : ℕ) × IsSoughtIn table key number × HasBody table bytes number (λ body. Misses body key))
+IsFindRead table bytes key (Some entry) =
+    (entry.key ≡ key) × IsEntry entry × ((number : ℕ) × IsSoughtIn table key number × HasBody table bytes number (λ body. Finds body key (payload_of entry)))
+
+-- why a key is not found in a table whose file has these bytes: the block in which it is sought is refused
 abbrev pub IsFindRefused : {S : Type 0} → Table S → List ℕ → List ℕ → Fault → Type 0
-IsFindRefused table bytes key fault = (number : ℕ) × IsBlockRefused table bytes number (λ at body. IsSearchUnfit table.file.id at body key) fault
+IsFindRefused table bytes key fault =
+    (number : ℕ) × IsSoughtIn table key number × IsBlockRefused table bytes number (λ at body. IsSearchUnfit table.file.id at body key) fault
 
 -- the blocks at these places, of which the first has this number, are those of these entries
 abbrev pub AreRead : FileId → List ℕ → ℕ → List BlockPlace → List (List Entry) → Type 0

@@ -10,7 +10,7 @@ ghost use Rattle.mg_sealed.specs.Blocks.{IsUnfitAt};
 ghost use Rattle.mg_sealed.specs.Filling.{items_of};
 ghost use Rattle.mg_table.specs.Entries.{pair_of, payload_of, IsEntry};
 ghost use Rattle.mg_table.specs.Index.{places_from};
-ghost use Rattle.mg_table.specs.Reading.{entry_of, AreRead, HasUnfit, IsFindRefused, IsListUnfit, IsPayloadRefused, IsScanRefused, IsSearchUnfit};
+ghost use Rattle.mg_table.specs.Reading.{entry_of, AreRead, HasUnfit, IsFindRead, IsFindRefused, IsListUnfit, IsPayloadRefused, IsScanRefused, IsSearchUnfit, IsSoughtIn, IsSoughtNowhere};
 ghost use Rattle.mg_table.specs.Table.{IsTableOf, Stands};
 ghost use Rattle.mg_table.specs.declared.entry.Entry.{Entry};
 
@@ -38,6 +38,8 @@ pub fn find<F: Files>(
 ) -> Result<Option<Entry>, Fault>
     ensures found { IfSome (F.told table.now.file.file) (λ _. (entries : List Entry) → Stands F.told table.now entries →
         Answers (Ok (entry_of key.now entries)) result) }
+    ensures read { IfOk result (λ found. IfSome (F.told table.now.file.file) (λ bytes. table.now.file.len ≡ length bytes →
+        IsFindRead table.now bytes key.now found)) }
     ensures refusals { IfErr result (λ fault. IsOutside fault ⊎ HasUnfit table.now fault) }
     ensures causes { IfErr result (λ fault. IfSome (F.told table.now.file.file) (λ bytes. table.now.file.len ≡ length bytes →
         IsOutside fault ⊎ IsFindRefused table.now bytes key.now fault)) }
@@ -57,6 +59,8 @@ pub fn find_hashed<F: Files>(
     requires { hashed.now ≡ key_words key.now }
     ensures found { IfSome (F.told table.now.file.file) (λ _. (entries : List Entry) → Stands F.told table.now entries →
         Answers (Ok (entry_of key.now entries)) result) }
+    ensures read { IfOk result (λ found. IfSome (F.told table.now.file.file) (λ bytes. table.now.file.len ≡ length bytes →
+        IsFindRead table.now bytes key.now found)) }
     ensures refusals { IfErr result (λ fault. IsOutside fault ⊎ HasUnfit table.now fault) }
     ensures causes { IfErr result (λ fault. IfSome (F.told table.now.file.file) (λ bytes. table.now.file.len ≡ length bytes →
         IsOutside fault ⊎ IsFindRefused table.now bytes key.now fault)) }
@@ -73,7 +77,9 @@ pub fn find_hashed<F: Files>(
 /// The number of the only block that may have a key. None has it where the filter denies it, or where it is below the first.
 fn block_for<S>(table: &Table<S>, key: &Key, hashed: &HashedKey) -> Option<usize>
     requires { hashed.now ≡ key_words key.now }
-    ensures within { IfSome result (λ number. number < length table.now.index) }
+    ensures sought { MatchOption result
+        (IsSoughtNowhere table.now key.now)
+        (λ number. IsSoughtIn table.now key.now number) }
     ensures only { (entries : List Entry) (blocks : List (List Entry)) →
         IsTableOf table.now.foot.lo table.now.foot.hi entries blocks table.now.filter → table.now.index ≡ places_from 0 blocks →
         MatchOption result
