@@ -1,10 +1,9 @@
 -- Why a key is not found, or a table is not listed, and what is read of its blocks.
-use Rattle.std.proofs.Common.{◌≡◌, ℕ, ◌+◌, ◌<◌, ◌≤◌, ◌⊎◌, zero, suc, Bool, true, false, List, [], ◌∷◌, ◌++◌, length, get_or, map, take, refl, sym, ap, subst, ◌∙◌, inl, inr, arith, Option, Some, None, IfSome, Result, Ok, Err, IfErr, IfOk, MatchBool, MatchOption}
-use Rattle.std.proofs.lemmas.List.{append-nil, length-take-le, take_more}
+use Rattle.std.proofs.Common.{◌≡◌, ℕ, ◌+◌, ◌<◌, ◌⊎◌, suc, Bool, false, List, [], ◌∷◌, ◌++◌, length, get_or, map, take, refl, sym, ap, subst, ◌∙◌, inl, inr, arith, Option, Some, None, Result, Ok, Err, IfOk, MatchBool, MatchOption}
+use Rattle.std.proofs.lemmas.List.{length-take-le, take_more}
 use Rattle.std.proofs.lemmas.List.Elements.{at_read}
 use Rattle.std.specs.List.{All}
-use Rattle.std.specs.Result.{result_or}
-use Rattle.mg_block.specs.Block.{Begins, BreaksAt, IsBlock}
+use Rattle.mg_block.specs.Block.{Begins, IsBlock}
 use Rattle.mg_block.specs.Cursor.{Advances, Reading}
 use Rattle.mg_block.specs.Search.{Finds, Misses}
 use Rattle.mg_block.specs.View.{last_pair}
@@ -12,12 +11,12 @@ use Rattle.mg_block.specs.declared.pair.NotABlock.{NotABlock}
 use Rattle.mg_block.specs.declared.pair.Pair.{Pair}
 use Rattle.mg_block.proofs.Spelling.{last_pair_after-push}
 use Rattle.mg_model.specs.declared.faults.Fault.{Fault}
-use Rattle.mg_model.specs.declared.faults.Fault.TheVariants.{Malformed, NoMemory}
+use Rattle.mg_model.specs.declared.faults.Fault.TheVariants.{NoMemory}
 use Rattle.mg_model.specs.declared.faults.FileId.{FileId}
 use Rattle.mg_sealed.specs.Answers.{Answers, IsOutside}
 use Rattle.mg_sealed.specs.Filling.{items_of}
 use Rattle.mg_table.specs.Entries.{block_body, pair_of, payload_of, AreEntries, IsEntry}
-use Rattle.mg_table.specs.Reading.{read_at, AreRead, HasBody, IsBlockRefused, IsFindRead, IsFindRefused, IsListUnfit, IsPayloadRefused, IsScanRefused, IsSearchUnfit, IsSoughtIn}
+use Rattle.mg_table.specs.Reading.{read_at, AreRead, HasBody, IsBlockRefused, IsFindRead, IsFindRefused, IsListUnfit, IsPayloadRefused, IsRefusedAt, IsScanRefused, IsSearchUnfit, IsSoughtIn}
 use Rattle.mg_table.specs.declared.entry.Entry.{Entry}
 use Rattle.mg_table.specs.declared.index.BlockPlace.{BlockPlace}
 use Rattle.mg_table.specs.declared.table.Table.{Table}
@@ -38,8 +37,7 @@ frame_refused told table k place Unfit fault within there known =
     under_then told table.file.len (λ bytes. Answers (read_at table.file.id bytes place k) (Err fault)) (λ bytes. IsOutside fault ⊎ IsBlockRefused table bytes k Unfit fault)
     (λ bytes same h. elim h [
       | inl outside ↦ inl outside
-      | inr is ↦ inr (within, at_read table.index
-          (λ (p : BlockPlace). (read_at table.file.id bytes p k ≡ Err fault) ⊎ ((body : List ℕ) × (read_at table.file.id bytes p k ≡ Ok body) × Unfit p.at body fault)) k place within there (inl is))
+      | inr is ↦ inr (within, at_read table.index (IsRefusedAt table.file.id bytes k Unfit fault) k place within there (inl is))
     ]) known
 
 pub body_refused : {S : Type 0} (told : Option (List ℕ)) (table : Table S) (k : ℕ) (place : BlockPlace) (Unfit : OfBody) (fault : Fault) (frame : List ℕ) → k < length table.index
@@ -49,9 +47,7 @@ body_refused told table k place Unfit fault frame within there why known =
     under_then told table.file.len (λ bytes. read_at table.file.id bytes place k ≡ Ok frame) (λ bytes. IsOutside fault ⊎ IsBlockRefused table bytes k Unfit fault)
     (λ bytes same h. elim why [
       | inl memory ↦ inl (inl memory)
-      | inr unfit ↦ inr (within, at_read table.index
-          (λ (p : BlockPlace). (read_at table.file.id bytes p k ≡ Err fault) ⊎ ((body : List ℕ) × (read_at table.file.id bytes p k ≡ Ok body) × Unfit p.at body fault)) k place within there
-          (inr (frame, h, unfit)))
+      | inr unfit ↦ inr (within, at_read table.index (IsRefusedAt table.file.id bytes k Unfit fault) k place within there (inr (frame, h, unfit)))
     ]) known
 
 -- a block that is refused keeps its table from finding a key

@@ -23,7 +23,8 @@ use Rattle.mg_table.specs.Table.{hashed_keys, IsTableOf}
 use Rattle.mg_table.specs.declared.entry.Entry.{Entry}
 use Rattle.mg_table.specs.declared.index.BlockPlace.{BlockPlace}
 use Rattle.mg_table.specs.declared.table.Table.{Table}
-use Rattle.mg_table.proofs.ReadingLaws.{length-places_from, place-at, RiseAfter-behind}
+use Rattle.mg_table.proofs.LoadingLaws.{length-places_from}
+use Rattle.mg_table.proofs.ReadingLaws.{place-at, RiseAfter-behind}
 
 bytes_eq-apart : (a b : List ℕ) → (a ≡ b → ⊥) → bytes_eq a b ≡ false
 bytes_eq-apart a b apart = false_from_ne_true (bytes_eq a b) (λ same. apart ((bytes_eq-Decides a b).0 same))

@@ -1,7 +1,7 @@
 -- What is listed of a block.
 use Rattle.std.proofs.Common.{◌≡◌, ℕ, ◌+◌, ◌<◌, ◌≤◌, Bool, true, false, List, [], ◌∷◌, ◌++◌, length, map, refl, sym, ap, subst, ◌∙◌, arith, append_assoc, Option, Result, Ok, Err, IfOk, IfSome, MatchBool, get_or, take}
 use Rattle.std.proofs.lemmas.List.{append-nil, length-append, length-drop, map-append, take_all, take_more}
-use Rattle.std.proofs.lemmas.List.Elements.{All-head, All-nil, All-push}
+use Rattle.std.proofs.lemmas.List.Elements.{All-head, All-push}
 use Rattle.std.specs.List.{All}
 use Rattle.std.specs.Result.{result_or}
 use Rattle.mg_block.specs.Block.{shared_len, Follows, IsBlock}
@@ -9,7 +9,7 @@ use Rattle.mg_block.specs.Cursor.{Advances, GoesOn, Reading}
 use Rattle.mg_block.specs.View.{last_pair}
 use Rattle.mg_block.specs.declared.pair.NotABlock.{NotABlock}
 use Rattle.mg_block.specs.declared.pair.Pair.{Pair}
-use Rattle.mg_block.proofs.Listing.{Listed, Listed-bound, Listed-none}
+use Rattle.mg_block.proofs.Listing.{Listed, Listed-bound}
 use Rattle.mg_block.proofs.Order.{Extends-from_Precedes}
 use Rattle.mg_block.proofs.Spelling.{last_pair_after-push, pair_is, RiseAfter-last}
 use Rattle.mg_block.specs.Block.{Begins}
@@ -20,7 +20,8 @@ use Rattle.mg_table.specs.Reading.{AreRead}
 use Rattle.mg_table.specs.Table.{Stands}
 use Rattle.mg_table.specs.declared.table.Table.{Table}
 use Rattle.mg_table.proofs.FilledLaws.{items_of-push}
-use Rattle.mg_table.proofs.ReadingLaws.{length-places_from, told-always, All-behind}
+use Rattle.mg_table.proofs.LoadingLaws.{length-places_from}
+use Rattle.mg_table.proofs.ReadingLaws.{All-behind}
 use Rattle.mg_sealed.specs.Filling.{items_of}
 
 -- a front of these entries was read and listed behind others
@@ -164,10 +165,6 @@ pub record ScansTo {S : Type 0} (told : S → Option (List ℕ)) (table : Table 
   pub listed : IfSome (told table.file.file) (λ _. (all : List Entry) → (stands : Stands told table all) → entries ≡ items_of (take number stands.blocks))
   pub read : IfSome (told table.file.file) (λ bytes. table.file.len ≡ length bytes → (blocks : List (List Entry))
       × AreRead table.file.id bytes 0 (take number table.index) blocks × (entries ≡ items_of blocks))
-
-pub none-scanned : {S : Type 0} (told : S → Option (List ℕ)) (table : Table S) (entries : List Entry) → entries ≡ []
-    → IfSome (told table.file.file) (λ _. (all : List Entry) → (stands : Stands told table all) → entries ≡ items_of (take 0 stands.blocks))
-none-scanned told table entries none = told-always (told table.file.file) _ (λ _ _ all stands. none)
 
 -- one block more
 pub scanned-more : (blocks : List (List Entry)) (number : ℕ) (entries more : List Entry) → number < length blocks → entries ≡ items_of (take number blocks)

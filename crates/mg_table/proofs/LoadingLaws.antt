@@ -2,7 +2,7 @@
 use Rattle.std.proofs.Common.{◌≡◌, ◌≢◌, ℕ, ◌+◌, ◌-◌, ◌*◌, ◌/◌, ◌<◌, ◌≤◌, ◌^◌, ◌⊎◌, suc, List, [], ◌∷◌, ◌++◌, length, map, take, drop, refl, sym, ap, ◌∙◌, subst, inl, inr, arith, append_assoc, Ok}
 use Rattle.std.proofs.Math.Nat.{mod-eq_of_lt}
 use Rattle.std.proofs.lemmas.List.{length-append, length-map, drop_at, take_all}
-use Rattle.std.proofs.lemmas.List.Elements.{All-head, All-tail}
+use Rattle.std.proofs.lemmas.List.Elements.{All-cons, All-head, All-nil, All-tail}
 use Rattle.std.proofs.lemmas.List.Sums.{sum_by-cons}
 use Rattle.std.specs.List.{All}
 use Rattle.mg_block.specs.Block.{Precedes, RiseAfter}
@@ -25,14 +25,14 @@ use Rattle.mg_sealed.proofs.WrittenLaws.{written_frame_is_read}
 use Rattle.mg_table.specs.Entries.{block_body, pair_of, IsEntry}
 use Rattle.mg_table.specs.Filters.{IsFilterOf}
 use Rattle.mg_table.specs.Foot.{counts_bytes, foot_bytes, span_bytes, IsFoot}
-use Rattle.mg_table.specs.Index.{frame_length, index_bytes, places_from, IsIndexFrom}
+use Rattle.mg_table.specs.Index.{frame_length, index_bytes, places_from, IsIndexFrom, IsPlace}
 use Rattle.mg_table.specs.Table.{foot_of, hashed_keys, sizes_of, table_bodies, IsTableOf}
 use Rattle.mg_table.specs.declared.entry.Entry.{Entry}
 use Rattle.mg_table.specs.declared.foot.Foot.{Foot}
+use Rattle.mg_table.specs.declared.index.BlockPlace.{BlockPlace}
 use Rattle.mg_table.proofs.EntryLaws.{length-payload_of, one-fits}
 use Rattle.mg_table.proofs.FinishLaws.{length-foot_bytes}
 use Rattle.mg_table.proofs.IndexLaws.{length-frames, length-index_bytes, total}
-use Rattle.mg_table.proofs.PlaceLaws.{places_are}
 
 -- ---- entries that rise
 
@@ -41,7 +41,7 @@ last_key : List ℕ → List Entry → List ℕ
 last_key key [] = key
 last_key key (entry ∷ entries) = last_key entry.key entries
 
-rise_front : (previous : List ℕ) (xs ys : List Entry) → RiseAfter previous (map pair_of (xs ++ ys)) → RiseAfter previous (map pair_of xs)
+pub rise_front : (previous : List ℕ) (xs ys : List Entry) → RiseAfter previous (map pair_of (xs ++ ys)) → RiseAfter previous (map pair_of xs)
 rise_front previous [] ys rise = tt
 rise_front previous (x ∷ xs) ys rise = (rise.0, rise_front x.key xs ys rise.1)
 
@@ -74,7 +74,7 @@ one_in_block previous (x ∷ []) rise one = one-fits (pair_of x) rise.0.key (len
 one_in_block previous (x ∷ (y ∷ xs)) rise one = absurd (omega (arith, one))
 
 -- a block's body has at most 4,096 bytes
-most_bytes : (previous : List ℕ) (xs : List Entry) → RiseAfter previous (map pair_of xs) → Fits block_body xs → length (block_body xs) ≤ 4096
+pub most_bytes : (previous : List ℕ) (xs : List Entry) → RiseAfter previous (map pair_of xs) → Fits block_body xs → length (block_body xs) ≤ 4096
 most_bytes previous xs rise fits = elim fits.small [
   | inl small ↦ small
   | inr one ↦ one_in_block previous xs rise one
@@ -139,6 +139,12 @@ index_is key previous at ((x ∷ b) ∷ blocks) up filled rise room =
       subst (λ end. IsIndexFrom x.key later (places_from later blocks) end) ends rest,
     )
 
+-- each item of an index is a place
+pub places_fit : (key : List ℕ) (at : ℕ) (places : List BlockPlace) (end : ℕ) → IsIndexFrom key at places end → All IsPlace places
+places_fit key at [] end is = All-nil IsPlace
+places_fit key at (place ∷ places) end is =
+    All-cons IsPlace place places (record { key = is.1; at = omega (arith, is.2, is.3) }) (places_fit place.key (at + place.len) places end is.5)
+
 -- ---- a table
 
 rises : (lo hi : ℕ) (entries : List Entry) (blocks : List (List Entry)) (filter : List ℕ) → IsTableOf lo hi entries blocks filter → RiseAfter [] (map pair_of (items_of blocks))
@@ -159,7 +165,7 @@ index_small : (lo hi : ℕ) (entries : List Entry) (blocks : List (List Entry)) 
 index_small lo hi entries blocks filter parts =
     omega (
       arith,
-      length-index_bytes (places_from 0 blocks) (places_are [] 0 (places_from 0 blocks) _ (index_of_table lo hi entries blocks filter parts)),
+      length-index_bytes (places_from 0 blocks) (places_fit [] 0 (places_from 0 blocks) _ (index_of_table lo hi entries blocks filter parts)),
       length-places_from 0 blocks,
     )
 

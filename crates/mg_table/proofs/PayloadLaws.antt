@@ -97,9 +97,9 @@ spelled-again bytes key seq size gone payload t spelled =
     let two : payload.size ≡ size = ap (λ (p : Payload). p.size) t.is in
     let three : flag payload.gone ≡ gone = ap (λ (p : Payload). flag p.gone) t.is ∙ flag-spelled gone t.gone_to in (
       spelled ∙ sym (append_assoc (big_endian 8 seq) (big_endian 4 size) (big_endian 1 gone))
-      ∙ ap (λ n. (big_endian 8 n ++ big_endian 4 size) ++ big_endian 1 gone) (sym one)
-      ∙ ap (λ n. (big_endian 8 payload.seq ++ big_endian 4 n) ++ big_endian 1 gone) (sym two)
-      ∙ ap (λ n. (big_endian 8 payload.seq ++ big_endian 4 payload.size) ++ big_endian 1 n) (sym three),
+          ∙ ap (λ n. (big_endian 8 n ++ big_endian 4 size) ++ big_endian 1 gone) (sym one)
+          ∙ ap (λ n. (big_endian 8 payload.seq ++ big_endian 4 n) ++ big_endian 1 gone) (sym two)
+          ∙ ap (λ n. (big_endian 8 payload.seq ++ big_endian 4 payload.size) ++ big_endian 1 n) (sym three),
       record { seq = omega (arith, one, t.seq_to); size_from = omega (arith, two, t.size_from); size_to = omega (arith, two, t.size_to) },
     )
 

@@ -1,13 +1,11 @@
 -- The fields of a foot, and the items of an index, from the front of a body on.
 use Rattle.std.proofs.Common.{◌≡◌, ℕ, ◌+◌, ◌<◌, ◌≤◌, ◌^◌, List, [], ◌∷◌, ◌++◌, length, refl, sym, ap, ◌∙◌, subst, inl, inr, arith, append_assoc}
 use Rattle.std.proofs.lemmas.List.{append-nil, length-append}
-use Rattle.std.proofs.lemmas.List.Elements.{All-cons, All-nil}
-use Rattle.std.specs.List.{All}
 use Rattle.mg_model.specs.declared.faults.Fault.{Fault}
 use Rattle.mg_model.specs.declared.faults.FileId.{FileId}
 use Rattle.mg_sealed.specs.Numbers.{AreKept, IsTooGreat}
 use Rattle.mg_table.specs.Foot.{counts_bytes, foot_bytes, foot_numbers, places_bytes, span_bytes, IsFoot, IsInFields}
-use Rattle.mg_table.specs.Index.{index_bytes, key_after, place_bytes, FitsFields, IsIndexFrom, IsItemAt, IsItemUnfit, IsPlace}
+use Rattle.mg_table.specs.Index.{index_bytes, key_after, place_bytes, FitsFields, IsIndexFrom, IsItemAt, IsItemUnfit}
 use Rattle.mg_table.specs.declared.foot.Foot.{Foot}
 use Rattle.mg_table.specs.declared.index.BlockPlace.{BlockPlace}
 use Rattle.mg_table.proofs.IndexLaws.{index_bytes-push, length-place_bytes}
@@ -137,9 +135,3 @@ pub body_push : (body rest behind : List ℕ) (places new : List BlockPlace) (pl
 body_push body rest behind places new place is begins put =
     is ∙ ap (λ xs. index_bytes places ++ xs) begins ∙ sym (append_assoc (index_bytes places) (place_bytes place) behind)
     ∙ ap (λ xs. xs ++ behind) (sym (ap index_bytes put ∙ index_bytes-push places place))
-
--- each item of an index is a place
-pub places_are : (key : List ℕ) (at : ℕ) (places : List BlockPlace) (end : ℕ) → IsIndexFrom key at places end → All IsPlace places
-places_are key at [] end is = All-nil IsPlace
-places_are key at (place ∷ places) end is =
-    All-cons IsPlace place places (record { key = is.1; at = omega (arith, is.2, is.3) }) (places_are place.key (at + place.len) places end is.5)

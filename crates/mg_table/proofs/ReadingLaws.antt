@@ -1,5 +1,5 @@
 -- What is read of a table's blocks.
-use Rattle.std.proofs.Common.{◌≡◌, ℕ, zero, suc, ◌+◌, ◌<◌, ◌≤◌, ◌^◌, inl, inr, List, [], ◌∷◌, ◌++◌, length, get_or, take, drop, map, refl, sym, ap, subst, ◌∙◌, arith, append_assoc, Option, Some, None, IfSome, Result, Ok, Err, MatchResult}
+use Rattle.std.proofs.Common.{◌≡◌, ℕ, zero, suc, ◌+◌, ◌<◌, ◌≤◌, ◌^◌, inl, List, [], ◌∷◌, ◌++◌, length, get_or, take, drop, map, refl, sym, ap, subst, ◌∙◌, arith, append_assoc, Option, Some, None, IfSome, Result, Ok, Err, MatchResult}
 use Rattle.std.proofs.lemmas.Bool.{eq-eqb}
 use Rattle.std.proofs.lemmas.List.{map-append, take-append-drop, take_more, length-map, length-take-le}
 use Rattle.std.proofs.lemmas.List.Elements.{All-cons, All-head, All-nil, All-tail}
@@ -23,7 +23,7 @@ use Rattle.mg_table.specs.Table.{foot_of, table_bodies, Stands}
 use Rattle.mg_table.specs.declared.entry.Entry.{Entry}
 use Rattle.mg_table.specs.declared.index.BlockPlace.{BlockPlace}
 use Rattle.mg_table.specs.declared.table.Table.{Table}
-use Rattle.mg_table.proofs.EntryLaws.{length-payload_of, one-fits}
+use Rattle.mg_table.proofs.LoadingLaws.{length-places_from, most_bytes, rise_front}
 use Rattle.mg_table.proofs.IndexLaws.{length-frames, place_behind, total}
 
 -- ---- the entries of one block
@@ -40,10 +40,6 @@ RiseAfter-behind previous [] more rise = rise
 RiseAfter-behind previous (entry ∷ front) more rise =
     RiseAfter-behind previous front more (RiseAfter-below previous entry.key (front ++ more) rise.0.rises rise.1)
 
-pub RiseAfter-before : (previous : List ℕ) (front more : List Entry) → RiseAfter previous (map pair_of (front ++ more)) → RiseAfter previous (map pair_of front)
-RiseAfter-before previous [] more rise = tt
-RiseAfter-before previous (entry ∷ front) more rise = (rise.0, RiseAfter-before entry.key front more rise.1)
-
 All-before : {T : Type 0} (P : T → Type 0) (front more : List T) → All P (front ++ more) → All P front
 All-before P [] more all = All-nil P
 All-before P (x ∷ front) more all = All-cons P x front (All-head P x (front ++ more) all) (All-before P front more (All-tail P x (front ++ more) all))
@@ -56,7 +52,7 @@ All-behind P (x ∷ front) more all = All-behind P front more (All-tail P x (fro
 pub block-entries : (blocks : List (List Entry)) (k : ℕ) (d : List Entry) → AreEntries (items_of blocks) → k < length blocks → AreEntries (get_or blocks k d)
 block-entries [] k d are within = absurd (omega arith)
 block-entries (block ∷ blocks) zero d are within = record {
-  rising = RiseAfter-before [] block (items_of blocks) are.rising;
+  rising = rise_front [] block (items_of blocks) are.rising;
   each = All-before IsEntry block (items_of blocks) are.each;
 }
 block-entries (block ∷ blocks) (suc k) d are within =
@@ -70,18 +66,6 @@ filled-at block_of (block ∷ blocks) zero d filled within = filled.0
 filled-at block_of (block ∷ blocks) (suc k) d filled within = filled-at block_of blocks k d filled.2 (omega arith)
 
 -- ---- where blocks stand
-
-block-small : (block : List Entry) → AreEntries block → Fits block_body block → length (block_body block) ≤ 4096
-block-small [] are fits = absurd (fits.some refl)
-block-small (entry ∷ []) are fits = one-fits (pair_of entry) are.rising.0.key (length-payload_of entry)
-block-small (entry ∷ (next ∷ block)) are fits = elim fits.small [
-  | inl small ↦ small
-  | inr one ↦ absurd (omega (arith, one))
-]
-
-pub length-places_from : (at : ℕ) (blocks : List (List Entry)) → length (places_from at blocks) ≡ length blocks
-length-places_from at [] = refl
-length-places_from at (block ∷ blocks) = ap suc (length-places_from (at + frame_length block) blocks)
 
 pub place-at : (at : ℕ) (blocks : List (List Entry)) (k : ℕ) (p : BlockPlace) (d : List Entry) → k < length blocks
     → get_or (places_from at blocks) k p ≡ place_behind (at + total (take k blocks)) (get_or blocks k d)
@@ -132,7 +116,7 @@ block-read {S} told table entries stands bytes tells place k within is d =
     let block = get_or blocks k d in
     let inside : k < length blocks = omega (arith, ap length stands.index, length-places_from 0 blocks) in
     let are : AreEntries (items_of blocks) = subst AreEntries (sym parts.whole) parts.rising in
-    let small = block-small block (block-entries blocks k d are inside) (filled-at block_body blocks k d parts.filled inside) in
+    let small = most_bytes [] block (block-entries blocks k d are inside).rising (filled-at block_body blocks k d parts.filled inside) in
     let there : place ≡ place_behind (total (take k blocks)) block =
     is ∙ ap (λ ps. get_or ps k place) stands.index ∙ place-at 0 blocks k place d inside ∙ ap (λ n. place_behind n block) (omega arith) in
     let file = stands.file in
@@ -161,10 +145,6 @@ block-is told table entries stands k d within =
 pub told-then : (told : Option (List ℕ)) (P Q : List ℕ → Type 0) → ((bytes : List ℕ) → told ≡ Some bytes → P bytes → Q bytes) → IfSome told P → IfSome told Q
 told-then None P Q step known = tt
 told-then (Some bytes) P Q step known = step bytes refl known
-
-pub told-always : (told : Option (List ℕ)) (Q : List ℕ → Type 0) → ((bytes : List ℕ) → told ≡ Some bytes → Q bytes) → IfSome told Q
-told-always None Q always = tt
-told-always (Some bytes) Q always = always bytes refl
 
 -- a block of a table is refused only from outside
 pub block-refused : {S : Type 0} (told : S → Option (List ℕ)) (table : Table S) (entries : List Entry) (stands : Stands told table entries) (bytes : List ℕ)

@@ -50,8 +50,8 @@ abbrev pub foot_numbers : Foot → List ℕ
 foot_numbers foot = foot.entries ∷ foot.sizes ∷ foot.lo ∷ foot.hi ∷ foot.index_at ∷ foot.filter_at ∷ []
 
 -- what is wrong with a foot at this place: first that it has no entry, then its numbers, then that it has no block
-abbrev pub IsFootRefusedAt : FileId → ℕ → Foot → Fault → Type 0
-IsFootRefusedAt id at foot fault =
+abbrev pub AreFieldsUnfit : FileId → ℕ → Foot → Fault → Type 0
+AreFieldsUnfit id at foot fault =
     ((foot.entries ≡ 0) × (fault ≡ Malformed id at))
     ⊎ ((1 ≤ foot.entries) × IsTooGreat id at (foot_numbers foot) fault)
     ⊎ ((1 ≤ foot.entries) × AreKept (foot_numbers foot) × (foot.blocks ≡ 0) × (fault ≡ Malformed id at))
@@ -60,4 +60,4 @@ IsFootRefusedAt id at foot fault =
 abbrev pub IsFootUnfit : FileId → ℕ → List ℕ → Fault → Type 0
 IsFootUnfit id at body fault =
     (((foot : Foot) → IsInFields foot → body ≡ foot_bytes foot → ⊥) × (fault ≡ Malformed id at))
-    ⊎ ((foot : Foot) × IsInFields foot × (body ≡ foot_bytes foot) × IsFootRefusedAt id at foot fault)
+    ⊎ ((foot : Foot) × IsInFields foot × (body ≡ foot_bytes foot) × AreFieldsUnfit id at foot fault)

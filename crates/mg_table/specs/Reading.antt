@@ -1,5 +1,5 @@
 -- What is read of a table.
-use Rattle.std.specs.Prelude.{◌≡◌, ℕ, ◌+◌, ◌<◌, ◌^◌, ◌⊎◌, Bool, true, false, List, [], ◌∷◌, ◌++◌, length, map, take, find, Any, All, HoldsAt, Option, Some, None, Result, Ok, Err}
+use Rattle.std.specs.Prelude.{◌≡◌, ℕ, ◌+◌, ◌<◌, ◌^◌, ◌⊎◌, true, false, List, [], ◌∷◌, ◌++◌, length, map, take, find, Any, All, HoldsAt, Option, Some, None, Result, Ok, Err}
 use Rattle.std.specs.Str.{bytes_eq}
 use Rattle.mg_block.specs.Block.{Begins, BreaksAt, Precedes}
 use Rattle.mg_block.specs.Search.{Breaks, Finds, Misses}
@@ -53,12 +53,15 @@ IsListUnfit id at body fault =
     × (((place : ℕ) × BreaksAt body (map pair_of front) place × (fault ≡ Malformed id at))
     ⊎ ((pair : Pair) × (rest : List ℕ) × Begins body (map pair_of front ++ pair ∷ []) rest × IsPayloadRefused id at pair.payload fault))
 
--- why the block of this number is refused: its frame, or this of its body
+-- why the block of this number at this place is refused: its frame, or this of its body
+abbrev pub IsRefusedAt : FileId → List ℕ → ℕ → (ℕ → List ℕ → Fault → Type 0) → Fault → BlockPlace → Type 0
+IsRefusedAt id bytes number IsBodyUnfit fault place =
+    (read_at id bytes place number ≡ Err fault) ⊎ ((body : List ℕ) × (read_at id bytes place number ≡ Ok body) × IsBodyUnfit place.at body fault)
+
+-- why the block of this number is refused, where the index says that it stands
 abbrev pub IsBlockRefused : {S : Type 0} → Table S → List ℕ → ℕ → (ℕ → List ℕ → Fault → Type 0) → Fault → Type 0
 IsBlockRefused table bytes number IsBodyUnfit fault =
-    (number < length table.index)
-    × HoldsAt (λ place. (read_at table.file.id bytes place number ≡ Err fault)
-    ⊎ ((body : List ℕ) × (read_at table.file.id bytes place number ≡ Ok body) × IsBodyUnfit place.at body fault)) table.index number
+    (number < length table.index) × HoldsAt (IsRefusedAt table.file.id bytes number IsBodyUnfit fault) table.index number
 
 -- A key is sought in the block of this number: the filter does not deny the key, and the block is the last that begins with no key
 -- above it.

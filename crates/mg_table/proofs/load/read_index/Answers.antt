@@ -9,9 +9,8 @@ use Rattle.mg_table.specs.declared.index.BlockPlace.{BlockPlace}
 use Rattle.mg_table.specs.Loading.{IsIndexRefused}
 use Rattle.mg_sealed.proofs.AnswerLaws.{answered, answers, err_is, outside, refused}
 use Rattle.mg_table.proofs.KnownLaws.{knows_then, knows_index}
-use Rattle.mg_table.proofs.LoadingLaws.{index_of_table, length-places_from}
+use Rattle.mg_table.proofs.LoadingLaws.{index_of_table, length-places_from, places_fit}
 use Rattle.mg_table.proofs.RefusalLaws.{index_apart, index_frame_refused, index_miscounted, index_read, index_unfit, memory_refused}
-use Rattle.mg_table.proofs.PlaceLaws.{places_are}
 use Rattle.mg_table.proofs.load.read_index.Goals as goal
 
 pub returns-in_err-frame-clause-told : goal.returns-in_err-frame-clause-told
@@ -149,4 +148,4 @@ returns-clause-read g c =
     index_read told file.id file.len foot c.from-number.result frame index c.from-number.ensures spelled c.in_ok-index.ensures.is_index.0 many ends c.in_ok-frame.ensures.told
 
 pub returns-clause-places : goal.returns-clause-places
-returns-clause-places g c = places_are [] 0 c.in_ok-index.index c.args.foot.now.index_at c.in_ok-index.ensures.is_index.0
+returns-clause-places g c = places_fit [] 0 c.in_ok-index.index c.args.foot.now.index_at c.in_ok-index.ensures.is_index.0

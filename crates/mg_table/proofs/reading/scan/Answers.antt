@@ -10,7 +10,8 @@ use Rattle.mg_sealed.proofs.AnswerLaws.{err_is, outside, some_both}
 use Rattle.mg_table.specs.Reading.{AreRead, IsListUnfit, IsScanRefused}
 use Rattle.mg_table.proofs.CauseLaws.{body_refused, frame_refused, reads-more, scan_refused, ReadsTo}
 use Rattle.mg_table.proofs.RefusalLaws.{under_then, Under}
-use Rattle.mg_table.proofs.ReadingLaws.{block-answered, block-refused, length-places_from, told-then}
+use Rattle.mg_table.proofs.LoadingLaws.{length-places_from}
+use Rattle.mg_table.proofs.ReadingLaws.{block-answered, block-refused, told-then}
 use Rattle.mg_table.proofs.reading.scan.Goals as goal
 
 pub returns-in_err-frame-clause-listed : goal.returns-in_err-frame-clause-listed
