@@ -20,15 +20,9 @@ use Rattle.mg_table.specs.declared.table.Table.{Table}
 use Rattle.mg_table.proofs.FilledLaws.{items_of-push}
 use Rattle.mg_table.proofs.FilterLaws.{IsFilterOf-folded}
 use Rattle.mg_table.proofs.IndexLaws.{length-frames, place_behind, places_from-push, total}
+use Rattle.mg_table.proofs.PlaceLaws.{foot_is, place_is}
 
 -- ---- a block more is closed
-
-place_from : List ℕ → ℕ → ℕ → BlockPlace
-place_from key at len = record { key = key; at = at; len = len }
-
-place_is : (place other : BlockPlace) → place.key ≡ other.key → place.at ≡ other.at → place.len ≡ other.len → place ≡ other
-unfolding place_from
-place_is place other key at len = let e : place_from place.key place.at place.len ≡ place_from other.key other.at other.len = cc in e
 
 pub closes : {D : Type 0} (drafted : D → Option (List ℕ)) (old new : ClosedBlocks D) (blocks : List (List Entry)) (entries : List Entry) (block : List ℕ) (place : BlockPlace)
     → HasBlocks drafted old blocks → HasFrames drafted new.frames (map block_body blocks ++ block ∷ []) → new.index ≡ old.index ++ place ∷ []
@@ -78,16 +72,6 @@ length-foot_bytes foot =
     )
 
 -- ---- the table
-
-foot_from : ℕ → ℕ → ℕ → ℕ → ℕ → ℕ → ℕ → Foot
-foot_from entries sizes lo hi index_at filter_at blocks = record { entries = entries; sizes = sizes; lo = lo; hi = hi; index_at = index_at; filter_at = filter_at; blocks = blocks }
-
-foot_is : (foot other : Foot) → foot.entries ≡ other.entries → foot.sizes ≡ other.sizes → foot.lo ≡ other.lo → foot.hi ≡ other.hi → foot.index_at ≡ other.index_at
-    → foot.filter_at ≡ other.filter_at → foot.blocks ≡ other.blocks → foot ≡ other
-unfolding foot_from
-foot_is foot other a b c d e f g =
-    let same : foot_from foot.entries foot.sizes foot.lo foot.hi foot.index_at foot.filter_at foot.blocks
-    ≡ foot_from other.entries other.sizes other.lo other.hi other.index_at other.filter_at other.blocks = cc in same
 
 -- what is put behind the blocks, and what is kept of a table
 pub record Finishes {D S : Type 0} (drafted : D → Option (List ℕ)) (told : S → Option (List ℕ)) (writer : Writing D) (closed : ClosedBlocks D) (table : Table S) : Type 0 where

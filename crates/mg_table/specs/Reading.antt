@@ -63,8 +63,8 @@ abbrev pub IsBlockRefused : {S : Type 0} → Table S → List ℕ → ℕ → (�
 IsBlockRefused table bytes number IsBodyUnfit fault =
     (number < length table.index) × HoldsAt (IsRefusedAt table.file.id bytes number IsBodyUnfit fault) table.index number
 
--- A key is sought in the block of this number: the filter does not deny the key, and the block is the last that begins with no key
--- above it.
+-- A key is sought in the block of this number: the filter does not deny the key, the block begins with no key above it, and the next
+-- block with one above.
 pub record IsSoughtIn {S : Type 0} (table : Table S) (key : List ℕ) (number : ℕ) : Type 0 where
   pub held : has_words table.filter (key_words key) ≡ true
   pub within : number < length table.index
