@@ -4,7 +4,7 @@ use Rattle.std.proofs.lemmas.List.{append-nil, length-append}
 use Rattle.mg_frame.specs.BigEndian.{big_endian, front_number}
 use Rattle.mg_frame.proofs.BigEndianLaws.{length-big_endian}
 use Rattle.mg_records.specs.Record.{IsLawful}
-use Rattle.mg_records.specs.FieldLaws.{number_begins, after_number}
+use Rattle.mg_frame.proofs.SplitLaws.{number_begins, after_number}
 use Rattle.mg_dellist.specs.declared.dead.Dead.{Dead}
 use Rattle.mg_dellist.specs.Entry.{dead_record, dead_kind, DeadFits}
 

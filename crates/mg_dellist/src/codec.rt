@@ -9,10 +9,8 @@ use crate::dead::Dead;
 use crate::lookup::DEAD_LEN;
 use mg_frame::{get_u32, get_u64, put_u32, put_u64};
 use mg_records::{Front, Record};
+use mg_sealed::NUMBER_LIMIT;
 use std::alloc::{AllocError, Global};
-
-/// Numbers that a file keeps are below this one.
-const NUMBER_LIMIT: u64 = 1 << 62;
 
 /// The most bytes of a key and of a document.
 const SIZE_LIMIT: u32 = 1_048_826;

@@ -7,7 +7,7 @@ use Rattle.mg_frame.proofs.BigEndianLaws.{front_number_spelled, front_list_spell
 use Rattle.mg_model.specs.Bytes.{IsKey, IsDoc}
 use Rattle.mg_records.specs.Contents.{kind_of, doc_part, contents, AreContents}
 use Rattle.mg_records.specs.ContentsLaws.{kind_read, key_read, doc_part_read}
-use Rattle.mg_records.specs.FieldLaws.{length-counted}
+use Rattle.mg_frame.proofs.SplitLaws.{length-counted}
 
 -- the bytes begin with no key and document
 abbrev pub NoContents : List ℕ → Type 0

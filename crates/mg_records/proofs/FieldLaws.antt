@@ -1,33 +1,15 @@
--- Numbers at the front of bytes, and the fields of an index item and of a foot.
-use Rattle.std.proofs.Common.{◌≡◌, ℕ, ◌-◌, ◌<◌, ◌^◌, List, [], ◌++◌, length, take, drop, refl, sym, ap, ◌∙◌, arith, append_assoc, Option, Some, None}
-use Rattle.std.proofs.lemmas.List.{append-nil, length-append, length-drop, drop_at, take_all}
+-- The fields of an index item and of a foot.
+use Rattle.std.proofs.Common.{◌≡◌, ℕ, ◌-◌, ◌<◌, ◌^◌, List, [], ◌++◌, length, take, drop, refl, sym, ap, ◌∙◌, arith, append_assoc}
+use Rattle.std.proofs.lemmas.List.{append-nil, length-append, drop_at, take_all}
 use Rattle.std.proofs.Math.Nat.{mod-eq_of_lt}
-use Rattle.mg_frame.specs.BigEndian.{AreBytes, big_endian, big_endian_value, front_number}
-use Rattle.mg_frame.proofs.BigEndianLaws.{front_number-big_endian, front_number_spelled, length-big_endian, big_endian_value-big_endian}
+use Rattle.mg_frame.specs.BigEndian.{big_endian, big_endian_value}
+use Rattle.mg_frame.proofs.BigEndianLaws.{front_number-big_endian, length-big_endian, big_endian_value-big_endian}
+use Rattle.mg_frame.proofs.SplitLaws.{split_written}
 use Rattle.mg_sealed.specs.Foot.{said_blocks}
 use Rattle.mg_records.specs.File.{entry_bytes, foot_bytes}
+use Rattle.mg_records.specs.Reading.{IsEntry, IsInFields}
 use Rattle.mg_records.specs.declared.foot.Foot.{Foot}
 use Rattle.mg_records.specs.declared.index.Entry.{Entry}
-
-some_same : (a b : ℕ) (o : Option ℕ) → Some a ≡ o → o ≡ Some b → a ≡ b
-some_same a b o x y = let z : Some a ≡ Some b = x ∙ y in cc
-
--- the number that was read stands at the front
-pub split_is : (width : ℕ) (bytes : List ℕ) (n : ℕ) → AreBytes bytes → Some n ≡ front_number width bytes → bytes ≡ big_endian width n ++ drop width bytes
-split_is width bytes n small read = (front_number_spelled width bytes n small (sym read)).0
-
--- the number that was written is read, and what follows it is left
-pub split_written : (width : ℕ) (bytes rest : List ℕ) (n number : ℕ) → number < 256 ^ width → bytes ≡ big_endian width number ++ rest → Some n ≡ front_number width bytes
-    → (n ≡ number) × (drop width bytes ≡ rest)
-split_written width bytes rest n number fits is read = (
-  some_same n number (front_number width bytes) read (ap (front_number width) is ∙ front_number-big_endian width number rest fits),
-  ap (drop width) is ∙ drop_at (big_endian width number) rest width (length-big_endian width number),
-)
-
--- a number that was written is read
-pub split_some : (width : ℕ) (bytes rest : List ℕ) (number : ℕ) → number < 256 ^ width → bytes ≡ big_endian width number ++ rest → None ≡ front_number width bytes → ⊥
-split_some width bytes rest number fits is none =
-    let z : None ≡ Some number = none ∙ ap (front_number width) is ∙ front_number-big_endian width number rest fits in cc
 
 -- the fields of an index item, from left to right
 pub entry_right : (entry : Entry) (rest : List ℕ) → entry_bytes entry ++ rest ≡ big_endian 8 entry.first ++ (big_endian 8 entry.at ++ (big_endian 4 entry.len ++ rest))
@@ -67,10 +49,6 @@ said_blocks-foot foot fits =
     ∙ big_endian_value-big_endian 4 foot.blocks
     ∙ mod-eq_of_lt fits
 
--- the bytes behind a front, as a slice of them
-pub tail_is : (n : ℕ) (bytes : List ℕ) → take (length bytes - n) (drop n bytes) ≡ drop n bytes
-tail_is n bytes = take_all (length bytes - n) (drop n bytes) (omega (arith, length-drop n bytes))
-
 pub same_foot : (f g : Foot) → f.records ≡ g.records → f.sum ≡ g.sum → f.first ≡ g.first → f.last ≡ g.last → f.index ≡ g.index → f.blocks ≡ g.blocks → f ≡ g
 same_foot f g a b c d e h =
     ap (λ n. record { records = n; sum = f.sum; first = f.first; last = f.last; index = f.index; blocks = f.blocks }) a
@@ -85,3 +63,30 @@ same_entry f g a b c =
     ap (λ n. record { first = n; at = f.at; len = f.len }) a
     ∙ ap (λ n. record { first = g.first; at = n; len = f.len }) b
     ∙ ap (λ n. let k : Entry = record { first = g.first; at = g.at; len = n } in k) c
+
+-- ---- one spelling is one value
+
+-- a number at the front, and what follows it, are spelled in one way
+pub one_number : (width n m : ℕ) (rest more : List ℕ) → n < 256 ^ width → m < 256 ^ width → big_endian width n ++ rest ≡ big_endian width m ++ more → (n ≡ m) × (rest ≡ more)
+one_number width n m rest more fits fits' is =
+    let bytes = big_endian width n ++ rest in
+    let h = split_written width bytes more n m fits' is (sym (front_number-big_endian width n rest fits)) in
+    (h.0, sym (drop_at (big_endian width n) rest width (length-big_endian width n)) ∙ h.1)
+
+pub one_entry : (f g : Entry) (rest more : List ℕ) → IsEntry f → IsEntry g → entry_bytes f ++ rest ≡ entry_bytes g ++ more → (f ≡ g) × (rest ≡ more)
+one_entry f g rest more fits fits' is =
+    let a = one_number 8 f.first g.first _ _ (let s = fits.first in omega arith) (let s = fits'.first in omega arith) (sym (entry_right f rest) ∙ is ∙ entry_right g more) in
+    let b = one_number 8 f.at g.at _ _ (let s = fits.at in omega arith) (let s = fits'.at in omega arith) a.1 in
+    let c = one_number 4 f.len g.len _ _ (let s = fits.len in omega arith) (let s = fits'.len in omega arith) b.1 in
+    (same_entry f g a.0 b.0 c.0, c.1)
+
+pub one_foot : (f g : Foot) → IsInFields f → IsInFields g → foot_bytes f ≡ foot_bytes g → f ≡ g
+one_foot f g fits fits' is =
+    let z = one_number 1 1 1 _ _ (omega arith) (omega arith) (sym (foot_right f) ∙ is ∙ foot_right g) in
+    let a = one_number 8 f.records g.records _ _ (let s = fits.records in omega arith) (let s = fits'.records in omega arith) z.1 in
+    let b = one_number 8 f.sum g.sum _ _ (let s = fits.sum in omega arith) (let s = fits'.sum in omega arith) a.1 in
+    let c = one_number 8 f.first g.first _ _ (let s = fits.first in omega arith) (let s = fits'.first in omega arith) b.1 in
+    let d = one_number 8 f.last g.last _ _ (let s = fits.last in omega arith) (let s = fits'.last in omega arith) c.1 in
+    let e = one_number 8 f.index g.index _ _ (let s = fits.index in omega arith) (let s = fits'.index in omega arith) d.1 in
+    let h = one_number 4 f.blocks g.blocks _ _ (let s = fits.blocks in omega arith) (let s = fits'.blocks in omega arith) e.1 in
+    same_foot f g a.0 b.0 c.0 d.0 e.0 h.0

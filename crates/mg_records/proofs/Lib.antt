@@ -1,13 +1,12 @@
 pub mod BlockLaws
-mod ContentsReading
 pub mod EntryLaws
 pub mod FieldLaws
 pub mod FileLaws
 pub mod FootCounts
-mod ItemReading
 pub mod KnownLaws
 pub mod ListLaws
 pub mod LoadingLaws
+pub mod LoadingSteps
 pub mod LookupLaws
 pub mod RefusalLaws
 pub mod ScanLaws

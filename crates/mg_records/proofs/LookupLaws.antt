@@ -1,22 +1,25 @@
 -- The blocks of a file, where its index says that they stand.
-use Rattle.std.proofs.Common.{◌≡◌, ℕ, ◌+◌, ◌-◌, ◌<◌, ◌≤◌, ◌^◌, ◌⊎◌, Bool, true, false, List, [], ◌∷◌, ◌++◌, length, drop, refl, sym, ap, ◌∙◌, subst, arith, append_assoc, suc, zero, Option, Some, None, IfSome, inl, inr, Result, Ok, Err, MatchResult, slice_index_or}
+use Rattle.std.proofs.Common.{◌≡◌, ℕ, ◌+◌, ◌-◌, ◌<◌, ◌≤◌, ◌^◌, ◌⊎◌, cond, Bool, true, false, List, [], ◌∷◌, ◌++◌, length, drop, refl, sym, ap, ◌∙◌, subst, arith, append_assoc, suc, zero, Option, Some, None, IfSome, inl, inr, Result, Ok, Err, MatchResult, slice_index_or}
 use Rattle.std.proofs.lemmas.List.{append-nil, length-append, length-map, map-append, drop_at, drop_all}
+use Rattle.std.proofs.lemmas.Bool.{eq-eqb}
 use Rattle.std.proofs.lemmas.List.Elements.{filter-append}
 use Rattle.std.proofs.lemmas.List.Sums.{sum_by-cons}
-use Rattle.std.specs.Prelude.{filter, map, nat_lt, IsSome, IfErr}
+use Rattle.std.specs.Prelude.{filter, map, nat_lt, IsSome, IfErr, IfOk}
 use Rattle.std.specs.List.{AllByRecursion}
 use Rattle.std.specs.List.Sorted.{IsNonDecreasingBy, IsPartitionPoint}
 use Rattle.mg_frame.specs.Frames.{numbered_frames}
 use Rattle.mg_model.specs.declared.faults.Fault.{Fault}
-use Rattle.mg_model.specs.declared.faults.Fault.TheVariants.{NoMemory}
+use Rattle.mg_model.specs.declared.faults.Fault.TheVariants.{Malformed, NoMemory}
 use Rattle.mg_model.specs.declared.faults.FileId.{FileId}
 use Rattle.mg_sealed.specs.Answers.{Answers, IsOutside}
 use Rattle.mg_sealed.specs.Filling.{Fits, AreFilled, items_of}
 use Rattle.mg_sealed.specs.Reading.{frame_body}
+use Rattle.mg_sealed.specs.Blocks.{block_body, judged_block, IsUnfitAt}
+use Rattle.mg_sealed.proofs.AnswerLaws.{answered, refused, some_any, some_then}
 use Rattle.mg_sealed.proofs.WrittenLaws.{written_frame_is_read}
 use Rattle.mg_records.specs.File.{block_of, first_number, last_number, last_number_after, frame_length, index_from, end_of, RiseAfter, AreRising, AreBlocks, foot_of, bodies_of, index_bytes, foot_bytes, record_of}
 use Rattle.mg_records.specs.Record.{Kind, IsLawful}
-use Rattle.mg_records.specs.Reading.{IsIndexFrom, IsBlock, IsBlockFault, IsUnfit}
+use Rattle.mg_records.specs.Reading.{IsIndexFrom, IsBlock, IsBlockFault, IsBlockRefused, IsBlockUnfit, IsRecordUnfit}
 use Rattle.mg_records.specs.Writing.{Filed, Holds}
 use Rattle.mg_records.specs.declared.index.Entry.{Entry}
 use Rattle.mg_records.proofs.BlockLaws.{each-left, each-right}
@@ -88,33 +91,50 @@ told_both : {A B : Type 0} (o : Option A) (P Q : A → Type 0) → ((a : A) → 
 told_both None P Q step some p q = let e : false ≡ true = some in absurd cc
 told_both (Some a) P Q step some p q = step a p q
 
+judged_long : (id : FileId) (at len : ℕ) (body : List ℕ) → length body + 20 ≡ len → judged_block id at len (Ok body) ≡ Ok body
+judged_long id at len body is = ap (λ b. cond b (Ok body) (Err (Malformed id at))) (eq-eqb (length body + 20) len is)
+
+-- the body that is read of the block of a number
+reads_body : {T : Type 0} (kind : Kind T) → IsLawful kind → (id : FileId) (bytes : List ℕ) (blocks : List (List T)) (number : ℕ) (p : Parts blocks number) → AreBlocks kind blocks
+    → bytes ≡ numbered_frames (bodies_of kind blocks) → (entry : Entry) → entry ≡ record { first = first_number kind p.block; at = end_of kind p.before; len = frame_length kind p.block }
+    → block_body id bytes entry.at entry.len number ≡ Ok (block_of kind p.block)
+unfolding block_body
+reads_body {T} kind lawful id bytes blocks number p are is entry entry_is =
+    let reads : frame_body id bytes (end_of kind p.before) number ≡ Ok (block_of kind p.block) =
+    ap (λ (n : ℕ). frame_body id bytes (end_of kind p.before) n) (sym p.many)
+    ∙ reads_block kind lawful id bytes p.before p.block p.later (subst (λ bs. AreBlocks kind bs) p.all are) (is ∙ ap (λ bs. numbered_frames (bodies_of kind bs)) p.all) in
+    ap (λ (e : Entry). judged_block id e.at e.len (frame_body id bytes e.at number)) entry_is
+    ∙ ap (judged_block id (end_of kind p.before) (frame_length kind p.block)) reads
+    ∙ judged_long id (end_of kind p.before) (frame_length kind p.block) (block_of kind p.block) refl
+
+block_here : {T : Type 0} (kind : Kind T) (blocks : List (List T)) (number : ℕ) (body : List ℕ) (p : Parts blocks number) → body ≡ block_of kind p.block → IsBlock kind blocks number body
+block_here kind blocks number body p is = record { before = p.before; block = p.block; later = p.later; all = p.all; many = p.many; spelling = is }
+
+block_or_outside : {T : Type 0} (kind : Kind T) (blocks : List (List T)) (number : ℕ) (p : Parts blocks number) (result : Result (List ℕ) Fault) → Answers (Ok (block_of kind p.block)) result
+    → MatchResult result (λ body. IsBlock kind blocks number body) (λ fault. IsOutside fault)
+block_or_outside kind blocks number p (Ok body) answer = block_here kind blocks number body p (answered (block_of kind p.block) body (Ok (block_of kind p.block)) refl answer)
+block_or_outside kind blocks number p (Err fault) answer = refused (block_of kind p.block) (Ok (block_of kind p.block)) fault refl answer
+
 -- what is read of the block of a number
 pub block_read : {T S : Type 0} (kind : Kind T) → IsLawful kind → (told : S → Option (List ℕ)) (filed : Filed S) (records : List T) (holds : Holds kind told filed records)
     (number : ℕ) (entry : Entry) (result : Result (List ℕ) Fault) → IsSome (told filed.file.file) → number < length filed.index → entry ≡ slice_index_or filed.index number entry
-    → IfSome (told filed.file.file) (λ bytes. filed.file.len ≡ length bytes → Answers (frame_body filed.file.id bytes entry.at number) result)
-    → (p : Parts holds.blocks number) × (entry ≡ record { first = first_number kind p.block; at = end_of kind p.before; len = frame_length kind p.block })
-    × Answers (Ok (block_of kind p.block)) result
+    → IfSome (told filed.file.file) (λ bytes. filed.file.len ≡ length bytes → Answers (block_body filed.file.id bytes entry.at entry.len number) result)
+    → MatchResult result (λ body. IsBlock kind holds.blocks number body) (λ fault. IsOutside fault)
 block_read {T} {S} kind lawful told filed records holds number entry result some within is known =
     let many : length filed.index ≡ length holds.blocks = ap length holds.index ∙ length-index_from kind 0 holds.blocks in
     let p = parts holds.blocks number (omega (arith, within, many)) in
-    let id = filed.file.id in
     let entry' : entry ≡ record { first = first_number kind p.block; at = end_of kind p.before; len = frame_length kind p.block } =
     is ∙ ap (λ es. slice_index_or es number entry) holds.index
     ∙ ap (λ bs. slice_index_or (index_from kind 0 bs) number entry) p.all
     ∙ ap (λ n. slice_index_or (index_from kind 0 (p.before ++ p.block ∷ p.later)) n entry) (sym p.many)
     ∙ entry_is kind 0 p.before p.block p.later entry
     ∙ ap (λ n. record { first = first_number kind p.block; at = n; len = frame_length kind p.block }) (omega arith) in
-    let answer = told_both (told filed.file.file) (λ bytes. bytes ≡ numbered_frames (bodies_of kind holds.blocks))
-    (λ bytes. filed.file.len ≡ length bytes → Answers (frame_body id bytes entry.at number) result)
-    (λ bytes spelling known.
-    let reads : frame_body id bytes entry.at number ≡ Ok (block_of kind p.block) =
-    ap (λ (e : Entry). frame_body id bytes e.at number) entry'
-    ∙ ap (λ (n : ℕ). frame_body id bytes (end_of kind p.before) n) (sym p.many)
-    ∙ reads_block kind lawful id bytes p.before p.block p.later (subst (λ bs. AreBlocks kind bs) p.all holds.are)
-    (spelling ∙ ap (λ bs. numbered_frames (bodies_of kind bs)) p.all) in
-    subst (λ (a : Result (List ℕ) Fault). Answers a result) reads (known (holds.len ∙ ap length (sym spelling))))
-    some holds.bytes known in
-    (p, entry', answer)
+    block_or_outside kind holds.blocks number p result
+    (told_both (told filed.file.file) (λ bytes. bytes ≡ numbered_frames (bodies_of kind holds.blocks))
+    (λ bytes. filed.file.len ≡ length bytes → Answers (block_body filed.file.id bytes entry.at entry.len number) result)
+    (λ bytes spelling known. subst (λ (a : Result (List ℕ) Fault). Answers a result)
+    (reads_body kind lawful filed.file.id bytes holds.blocks number p holds.are spelling entry entry') (known (holds.len ∙ ap length (sym spelling))))
+    some holds.bytes known)
 
 -- ---- the first numbers rise
 
@@ -298,24 +318,59 @@ found_in {T} kind blocks are number behind d before block later point all many =
 pub outside_answer : {V : Type 0} (r : Result V Fault) (fault : Fault) (P : V → Type 0) → r ≡ Err fault → IsOutside fault → MatchResult r P (λ f. IsOutside f)
 outside_answer {V} r fault P is outside = subst (λ (x : Result V Fault). MatchResult x P (λ f. IsOutside f)) (sym is) outside
 
-pub fault_answer : {V : Type 0} (r : Result V Fault) (fault : Fault) (P : Fault → Type 0) → r ≡ Err fault → P fault → IfErr r P
-fault_answer {V} r fault P is holds = subst (λ (x : Result V Fault). IfErr x P) (sym is) holds
+-- a right answer, or want of memory where the bytes cause no fault
+pub right_answer : {V : Type 0} (r : Result V Fault) (P Q : V → Type 0) (U : Fault → Type 0) → ((v : V) → P v → Q v) → ((f : Fault) → U f → ⊥) → IfOk r P → IfErr r (λ f. (f ≡ NoMemory) ⊎ U f)
+    → MatchResult r Q (λ f. IsOutside f)
+right_answer (Ok v) P Q U step none holds unfit = step v holds
+right_answer (Err f) P Q U step none holds (inl memory) = inl memory
+right_answer (Err f) P Q U step none holds (inr unfit) = absurd (none f unfit)
 
--- an answer that only want of memory keeps back
-pub memory_answer : {V : Type 0} (r : Result V Fault) (P Q : V → Type 0) → ((v : V) → P v → Q v) → MatchResult r P (λ f. f ≡ NoMemory) → MatchResult r Q (λ f. IsOutside f)
-memory_answer (Ok v) P Q step holds = step v holds
-memory_answer (Err f) P Q step holds = inl holds
+record_at : {T : Type 0} (kind : Kind T) (id : FileId) (at : ℕ) (bytes : List ℕ) (fault : Fault) → IsRecordUnfit kind id at bytes fault → IsUnfitAt id at fault
+record_at kind id at bytes fault (inl great) = inl (great.0, 2 ^ 62, great.2)
+record_at kind id at bytes fault (inr outside) = inr outside.1
 
-pub faults_are : {V : Type 0} (r : Result V Fault) (P Q : Fault → Type 0) → ((f : Fault) → P f → Q f) → IfErr r P → IfErr r Q
-faults_are (Ok v) P Q step holds = tt
-faults_are (Err f) P Q step holds = step f holds
+pub first_of_both : (M U : Type 0) (V : U → Type 0) → M ⊎ ((u : U) × V u) → M ⊎ U
+first_of_both M U V (inl m) = inl m
+first_of_both M U V (inr u) = inr u.0
 
--- a body of a block that is outside its grammar
-pub block_fault : (id : FileId) (index : List Entry) (k : ℕ) (entry : Entry) → k < length index → slice_index_or index k entry ≡ entry → (fault : Fault)
-    → IsUnfit id entry.at fault ⊎ (fault ≡ NoMemory) → IsOutside fault ⊎ IsBlockFault id index fault
-block_fault id index k entry within is fault (inr memory) = inl (inl memory)
-block_fault id index k entry within is fault (inl (inl malformed)) = inr (k, entry, within, is, inr malformed)
-block_fault id index k entry within is fault (inl (inr great)) = inr (k, entry, within, is, inl (great.0, 2 ^ 62, great.2))
+-- the index item of a block
+pub entry_there : (index : List Entry) (k : ℕ) → k < length index → (entry : Entry) × (slice_index_or index k entry ≡ entry)
+entry_there [] k within = absurd (omega (arith, within))
+entry_there (e ∷ index) zero within = (e, refl)
+entry_there (e ∷ index) (suc k) within = let more = entry_there index k (omega (arith, within)) in (more.0, more.1)
+
+-- a block of the index whose body is refused
+pub block_fault : {T : Type 0} (kind : Kind T) (id : FileId) (index : List Entry) (k : ℕ) (entry : Entry) (body : List ℕ) (fault : Fault) → k < length index → slice_index_or index k entry ≡ entry
+    → (fault ≡ NoMemory) ⊎ IsBlockUnfit kind id entry.at body fault → IsOutside fault ⊎ IsBlockFault id index fault
+block_fault kind id index k entry body fault within is (inl memory) = inl (inl memory)
+block_fault kind id index k entry body fault within is (inr unfit) = inr (k, entry, within, is, record_at kind id entry.at unfit.rest fault unfit.unfit)
+
+-- a block whose frame is refused, in what is told of the file
+pub frame_refused : (told : Option (List ℕ)) (id : FileId) (len : ℕ) (index : List Entry) (k : ℕ) (entry : Entry) (P : ℕ → List ℕ → Fault → Type 0) (fault : Fault) → k < length index
+    → slice_index_or index k entry ≡ entry → IfSome told (λ bytes. len ≡ length bytes → Answers (block_body id bytes entry.at entry.len k) (Err fault))
+    → IfSome told (λ bytes. len ≡ length bytes → IsOutside fault ⊎ IsBlockRefused id bytes index P fault)
+frame_refused told id len index k entry P fault within is read =
+    some_then told (λ bytes. len ≡ length bytes → Answers (block_body id bytes entry.at entry.len k) (Err fault)) (λ bytes. len ≡ length bytes → IsOutside fault ⊎ IsBlockRefused id bytes index P fault)
+    (λ bytes h same. elim (h same) [
+      | inl outside ↦ inl outside
+      | inr damaged ↦ inr (record { number = k; entry = entry; within = within; entry_is = is; why = inl damaged })
+    ]) read
+
+-- a block whose body is refused, in what is told of the file
+pub body_refused : (told : Option (List ℕ)) (id : FileId) (len : ℕ) (index : List Entry) (k : ℕ) (entry : Entry) (frame body : List ℕ) (P : ℕ → List ℕ → Fault → Type 0) (fault : Fault) → k < length index
+    → slice_index_or index k entry ≡ entry → body ≡ frame → (fault ≡ NoMemory) ⊎ P entry.at body fault
+    → IfSome told (λ bytes. len ≡ length bytes → block_body id bytes entry.at entry.len k ≡ Ok frame)
+    → IfSome told (λ bytes. len ≡ length bytes → IsOutside fault ⊎ IsBlockRefused id bytes index P fault)
+body_refused told id len index k entry frame body P fault within is spelled (inl memory) read = some_any told _ (λ bytes same. inl (inl memory))
+body_refused told id len index k entry frame body P fault within is spelled (inr unfit) read =
+    some_then told (λ bytes. len ≡ length bytes → block_body id bytes entry.at entry.len k ≡ Ok frame) (λ bytes. len ≡ length bytes → IsOutside fault ⊎ IsBlockRefused id bytes index P fault)
+    (λ bytes h same. inr (record {
+      number = k;
+      entry = entry;
+      within = within;
+      entry_is = is;
+      why = inr (frame, h same, subst (λ (b : List ℕ). P entry.at b fault) spelled unfit);
+    })) read
 
 pub point_of : {T : Type 0} (kind : Kind T) → IsLawful kind → (blocks : List (List T)) → AreBlocks kind blocks → (index : List Entry) (number behind : ℕ) → index ≡ index_from kind 0 blocks
     → (IsNonDecreasingBy (λ (e : Entry). e.first) index → IsPartitionPoint (λ (e : Entry). e.first ≤ number) (λ (e : Entry). number < e.first) index behind)

@@ -1,20 +1,28 @@
--- What the bytes of a file are refused by.
-use Rattle.std.proofs.Common.{◌≡◌, ◌≢◌, ℕ, ◌+◌, ◌-◌, ◌<◌, ◌^◌, ◌⊎◌, cond, List, length, sym, ap, ◌∙◌, subst, inl, inr, arith, Option, Some, None, IfSome, Result, Ok, Err}
+-- What the bytes of a file are refused by, and that those of a file of records are not.
+use Rattle.std.proofs.Common.{◌≡◌, ◌≢◌, ℕ, ◌-◌, ◌<◌, ◌≤◌, ◌⊎◌, cond, List, length, refl, sym, ap, ◌∙◌, subst, inl, inr, arith, Option, Some, None, IfSome, Result, Ok, Err, MatchResult}
 use Rattle.std.proofs.lemmas.Bool.{lt-ltb, eq-eqb, ne_eqb, cases_eq, cases_lt}
-use Rattle.std.specs.Prelude.{nat_lt, IfErr}
+use Rattle.std.specs.Prelude.{nat_lt}
+use Rattle.mg_frame.specs.Frames.{numbered_frames}
 use Rattle.mg_model.specs.declared.faults.Fault.{Fault}
-use Rattle.mg_model.specs.declared.faults.Fault.TheVariants.{Damaged, Malformed, NoMemory}
+use Rattle.mg_model.specs.declared.faults.Fault.TheVariants.{Damaged}
 use Rattle.mg_model.specs.declared.faults.FileId.{FileId}
 use Rattle.mg_sealed.specs.Answers.{Answers, IsOutside}
 use Rattle.mg_sealed.specs.Foot.{foot_body}
+use Rattle.mg_sealed.specs.Numbers.{AreKept}
 use Rattle.mg_sealed.specs.Reading.{frame_body, opened}
 use Rattle.mg_sealed.specs.declared.reading.SealedFile.{SealedFile}
-use Rattle.mg_records.specs.File.{foot_bytes, index_bytes}
-use Rattle.mg_records.specs.Reading.{IsFoot, IsIndexFrom, IsUnfit}
-use Rattle.mg_records.specs.Refusals.{IsLengthFault, EndsIn, IsRefused}
+use Rattle.mg_sealed.proofs.AnswerLaws.{err_same, ok_not_err, ok_same, opened-ok, opened_told, some_both, some_then}
+use Rattle.mg_records.specs.File.{AreBlocks, IsFile, bodies_of, foot_bytes, foot_of, index_bytes, index_from}
+use Rattle.mg_records.specs.Reading.{EndsIn, IsFoot, IsFootFault, IsFootUnfit, IsInFields, IsIndexFrom, IsIndexOf, IsRead, foot_numbers}
+use Rattle.mg_records.specs.Record.{Kind, IsLawful}
+use Rattle.mg_records.specs.Refusals.{IsApart, IsFootRefused, IsIndexRefused, IsLengthFault, IsRefused}
+use Rattle.mg_records.specs.Writing.{Filed, Holds}
 use Rattle.mg_records.specs.declared.foot.Foot.{Foot}
 use Rattle.mg_records.specs.declared.index.Entry.{Entry}
-use Rattle.mg_records.proofs.KnownLaws.{opened-ok}
+use Rattle.mg_records.proofs.EntryLaws.{index_not_unfit, kept_not_great, one_index}
+use Rattle.mg_records.proofs.FieldLaws.{one_foot}
+use Rattle.mg_records.proofs.FileLaws.{length-index_from}
+use Rattle.mg_records.proofs.LoadingLaws.{file_ends, foot_of_is_foot, index_from_is_index, reads_foot, reads_index}
 
 -- ---- lengths
 
@@ -35,109 +43,177 @@ opened-short {S} id file len bytes same less =
     ap (λ b. cond b (cond (nat_lt (length bytes) 65) short (Ok whole)) fault) (eq-eqb (length bytes) len same)
     ∙ ap (λ b. cond b short (Ok whole)) (lt-ltb (length bytes) 65 less)
 
-ok_not_err : {V : Type 0} (a : Result V Fault) (value : V) (fault : Fault) → a ≡ Ok value → a ≡ Err fault → ⊥
-ok_not_err a value fault ok err = let e : Ok value ≡ Err fault = sym ok ∙ err in absurd cc
-
-same_fault : {V : Type 0} (a : Result V Fault) (fault other : Fault) → a ≡ Err fault → a ≡ Err other → fault ≡ other
-same_fault {V} a fault other one two = let x : Result V Fault = Err fault in let y : Result V Fault = Err other in let e : x ≡ y = sym one ∙ two in cc
-
 length_fault : {S : Type 0} (id : FileId) (file : S) (len : ℕ) (bytes : List ℕ) (fault : Fault) → opened id file len 65 bytes ≡ Err fault → IsLengthFault id len bytes fault
 length_fault id file len bytes fault is = elim (cases_eq (length bytes) len) [
   | inl same ↦ elim (cases_lt (length bytes) 65) [
-    | inl less ↦ inr (less, same_fault (opened id file len 65 bytes) fault (Damaged id 0 65 (length bytes)) is (opened-short id file len bytes same less))
+    | inl less ↦ inr (same, less, err_same (opened id file len 65 bytes) fault (Damaged id 0 65 (length bytes)) is (opened-short id file len bytes same less))
     | inr enough ↦ absurd (ok_not_err (opened id file len 65 bytes) (record { id = id; file = file; len = len }) fault (opened-ok id file len 65 bytes same (omega (arith, enough))) is)
   ]
-  | inr other ↦ inl (other, same_fault (opened id file len 65 bytes) fault (Damaged id 0 len (length bytes)) is (opened-other id file len bytes other))
+  | inr other ↦ inl (other, err_same (opened id file len 65 bytes) fault (Damaged id 0 len (length bytes)) is (opened-other id file len bytes other))
 ]
-
-length_is : {S : Type 0} (id : FileId) (file : S) (len : ℕ) (bytes : List ℕ) (value : SealedFile S) → opened id file len 65 bytes ≡ Ok value → len ≡ length bytes
-length_is id file len bytes value is = elim (cases_eq (length bytes) len) [
-  | inl same ↦ sym same
-  | inr other ↦ absurd (ok_not_err (opened id file len 65 bytes) value (Damaged id 0 len (length bytes)) is (opened-other id file len bytes other))
-]
-
--- ---- what is told of a file
-
-pub told_then : {A : Type 0} (o : Option A) (P Q : A → Type 0) → ((a : A) → P a → Q a) → IfSome o P → IfSome o Q
-told_then None P Q step p = tt
-told_then (Some a) P Q step p = step a p
-
-pub told_pair : {A : Type 0} (o : Option A) (P Q : A → Type 0) → IfSome o P → IfSome o Q → IfSome o (λ a. P a × Q a)
-told_pair None P Q p q = tt
-told_pair (Some a) P Q p q = (p, q)
-
-pub told_err : {V : Type 0} (o : Option (List ℕ)) (r : Result V Fault) (fault : Fault) (P : List ℕ → Fault → Type 0) → r ≡ Err fault → IfSome o (λ bytes. P bytes fault) → IfSome o (λ bytes. IfErr r (P bytes))
-told_err {V} o r fault P is p = told_then o (λ bytes. P bytes fault) (λ bytes. IfErr r (P bytes)) (λ bytes holds. subst (λ (x : Result V Fault). IfErr x (P bytes)) (sym is) holds) p
-
--- the kept length is that of the bytes
-pub told_length : {S : Type 0} (told : Option (List ℕ)) (id : FileId) (file : S) (len : ℕ) (value : SealedFile S) → IfSome told (λ bytes. Answers (opened id file len 65 bytes) (Ok value))
-    → IfSome told (λ bytes. len ≡ length bytes)
-told_length {S} told id file len value known =
-    told_then told (λ bytes. Answers (opened id file len 65 bytes) (Ok value)) (λ bytes. len ≡ length bytes) (λ bytes is. length_is id file len bytes value is) known
-
--- what a frame of the opened file is, in what is known of the file
-pub told_answer : {S : Type 0} (told : S → Option (List ℕ)) (id : FileId) (arg : S) (len : ℕ) (file : SealedFile S) (body : FileId → List ℕ → Result (List ℕ) Fault) (result : Result (List ℕ) Fault)
-    → file ≡ record { id = id; file = arg; len = len } → IfSome (told arg) (λ bytes. len ≡ length bytes)
-    → IfSome (told file.file) (λ bytes. file.len ≡ length bytes → Answers (body file.id bytes) result)
-    → IfSome (told arg) (λ bytes. (len ≡ length bytes) × Answers (body id bytes) result)
-told_answer {S} told id arg len file body result is same known =
-    let known' = subst (λ (f : SealedFile S). IfSome (told f.file) (λ bytes. f.len ≡ length bytes → Answers (body f.id bytes) result)) is known in
-    told_then (told arg) (λ bytes. (len ≡ length bytes) × (len ≡ length bytes → Answers (body id bytes) result)) (λ bytes. (len ≡ length bytes) × Answers (body id bytes) result)
-    (λ bytes h. (h.0, h.1 h.0)) (told_pair (told arg) (λ bytes. len ≡ length bytes) (λ bytes. len ≡ length bytes → Answers (body id bytes) result) same known')
 
 -- ---- the refusals, in the order of judging
 
-pub refused_by_length : {S : Type 0} (id : FileId) (file : S) (len : ℕ) (bytes : List ℕ) (fault : Fault) → Answers (opened id file len 65 bytes) (Err fault) → IsOutside fault ⊎ IsRefused id len bytes fault
-refused_by_length id file len bytes fault (inl outside) = inl outside
-refused_by_length id file len bytes fault (inr is) = inr (inl (length_fault id file len bytes fault is))
+pub file_refused : {S : Type 0} (told : Option (List ℕ)) (id : FileId) (file : S) (len : ℕ) (fault : Fault)
+    → (let answer : Result (SealedFile S) Fault = Err fault in IfSome told (λ bytes. Answers (opened id file len 65 bytes) answer))
+    → IfSome told (λ bytes. IsOutside fault ⊎ IsRefused id len bytes fault)
+file_refused {S} told id file len fault read =
+    let answer : Result (SealedFile S) Fault = Err fault in
+    some_then told (λ bytes. Answers (opened id file len 65 bytes) answer) (λ bytes. IsOutside fault ⊎ IsRefused id len bytes fault)
+    (λ bytes h. elim h [ | inl outside ↦ inl outside | inr is ↦ inr (inl (length_fault id file len bytes fault is)) ]) read
 
-pub refused_by_foot : (id : FileId) (len : ℕ) (bytes : List ℕ) (fault : Fault) → Answers (foot_body id bytes 65 1) (Err fault) → IsOutside fault ⊎ IsRefused id len bytes fault
-refused_by_foot id len bytes fault (inl outside) = inl outside
-refused_by_foot id len bytes fault (inr is) = inr (inr (inl is))
+pub foot_refused : {S : Type 0} (told : S → Option (List ℕ)) (file : SealedFile S) (id : FileId) (given : S) (len : ℕ) (fault : Fault)
+    → file ≡ record { id = id; file = given; len = len } → 65 ≤ file.len → IfSome (told given) (λ bytes. length bytes ≡ len)
+    → IfSome (told file.file) (λ bytes. file.len ≡ length bytes → IsOutside fault ⊎ IsFootRefused file.id bytes fault)
+    → IfSome (told given) (λ bytes. IsOutside fault ⊎ IsRefused id len bytes fault)
+foot_refused {S} told file id given len fault same enough long is =
+    let enough' : 65 ≤ len = omega (arith, enough, ap (λ (f : SealedFile S). f.len) same) in
+    some_then (told given) (λ bytes. (length bytes ≡ len) × (IsOutside fault ⊎ IsFootRefused id bytes fault)) (λ bytes. IsOutside fault ⊎ IsRefused id len bytes fault)
+    (λ bytes h. elim h.1 [ | inl outside ↦ inl outside | inr foot ↦ inr (inr (h.0, enough', inl foot)) ])
+    (some_both (told given) (λ bytes. length bytes ≡ len) (λ bytes. IsOutside fault ⊎ IsFootRefused id bytes fault) long
+    (opened_told told file id given len (λ i bytes. IsOutside fault ⊎ IsFootRefused i bytes fault) same long is))
 
-pub refused_by_foot_body : (id : FileId) (len : ℕ) (bytes body : List ℕ) (fault : Fault) → len ≡ length bytes → foot_body id bytes 65 1 ≡ Ok body
-    → ((foot : Foot) → IsFoot foot → body ≢ foot_bytes foot) → IsUnfit id (len - 65) fault → IsOutside fault ⊎ IsRefused id len bytes fault
-refused_by_foot_body id len bytes body fault same whole none is =
-    inr (inr (inr (inl (record { body = body; whole = whole; no_foot = none; fault_is = subst (λ n. IsUnfit id (n - 65) fault) same is }))))
+pub index_refused : {S : Type 0} (told : S → Option (List ℕ)) (file : SealedFile S) (id : FileId) (given : S) (len : ℕ) (foot : Foot) (fault : Fault)
+    → file ≡ record { id = id; file = given; len = len } → 65 ≤ file.len → IfSome (told given) (λ bytes. length bytes ≡ len)
+    → IfSome (told file.file) (λ bytes. file.len ≡ length bytes → EndsIn file.id bytes foot)
+    → IfSome (told file.file) (λ bytes. file.len ≡ length bytes → IsOutside fault ⊎ IsIndexRefused file.id bytes foot fault)
+    → IfSome (told given) (λ bytes. IsOutside fault ⊎ IsRefused id len bytes fault)
+index_refused {S} told file id given len foot fault same enough long ends is =
+    let enough' : 65 ≤ len = omega (arith, enough, ap (λ (f : SealedFile S). f.len) same) in
+    some_then (told given) (λ bytes. (length bytes ≡ len) × (EndsIn id bytes foot × (IsOutside fault ⊎ IsIndexRefused id bytes foot fault))) (λ bytes. IsOutside fault ⊎ IsRefused id len bytes fault)
+    (λ bytes h. elim h.1.1 [ | inl outside ↦ inl outside | inr index ↦ inr (inr (h.0, enough', inr (foot, h.1.0, index))) ])
+    (some_both (told given) (λ bytes. length bytes ≡ len) (λ bytes. EndsIn id bytes foot × (IsOutside fault ⊎ IsIndexRefused id bytes foot fault)) long
+    (some_both (told given) (λ bytes. EndsIn id bytes foot) (λ bytes. IsOutside fault ⊎ IsIndexRefused id bytes foot fault)
+    (opened_told told file id given len (λ i bytes. EndsIn i bytes foot) same long ends)
+    (opened_told told file id given len (λ i bytes. IsOutside fault ⊎ IsIndexRefused i bytes foot fault) same long is)))
 
-pub ends_in : (id : FileId) (bytes body : List ℕ) (foot : Foot) → foot_body id bytes 65 1 ≡ Ok body → IsFoot foot → body ≡ foot_bytes foot → EndsIn id bytes foot
-ends_in id bytes body foot whole is_foot is = record { is_foot = is_foot; whole = whole ∙ ap (λ (b : List ℕ). let r : Result (List ℕ) Fault = Ok b in r) is }
+-- what is kept is what the bytes say
+pub file_read : {S : Type 0} (told : S → Option (List ℕ)) (file : SealedFile S) (id : FileId) (given : S) (len : ℕ) (filed : Filed S)
+    → file ≡ record { id = id; file = given; len = len } → IfSome (told given) (λ bytes. length bytes ≡ len)
+    → IfSome (told file.file) (λ bytes. file.len ≡ length bytes → EndsIn file.id bytes filed.foot)
+    → IfSome (told file.file) (λ bytes. file.len ≡ length bytes → IsIndexOf file.id bytes filed.foot filed.index)
+    → IfSome (told given) (λ bytes. IsRead id bytes filed)
+file_read told file id given len filed same long foot index =
+    some_then (told given) (λ bytes. EndsIn id bytes filed.foot × IsIndexOf id bytes filed.foot filed.index) (λ bytes. IsRead id bytes filed) (λ bytes h. record { foot = h.0; index = h.1 })
+    (some_both (told given) (λ bytes. EndsIn id bytes filed.foot) (λ bytes. IsIndexOf id bytes filed.foot filed.index)
+    (opened_told told file id given len (λ i bytes. EndsIn i bytes filed.foot) same long foot)
+    (opened_told told file id given len (λ i bytes. IsIndexOf i bytes filed.foot filed.index) same long index))
 
-pub refused_by_index : (id : FileId) (len : ℕ) (bytes : List ℕ) (foot : Foot) (number : ℕ) (fault : Fault) → EndsIn id bytes foot → number ≡ foot.blocks
-    → Answers (frame_body id bytes foot.index number) (Err fault) → IsOutside fault ⊎ IsRefused id len bytes fault
-refused_by_index id len bytes foot number fault ends many (inl outside) = inl outside
-refused_by_index id len bytes foot number fault ends many (inr is) =
-    inr (inr (inr (inr (inl (record { foot = foot; ends = ends; damage = sym (ap (λ (n : ℕ). frame_body id bytes foot.index n) many) ∙ is })))))
+-- ---- the bytes of a file of records
 
-pub refused_by_index_body : (id : FileId) (len : ℕ) (bytes : List ℕ) (foot : Foot) (number : ℕ) (body : List ℕ) (fault : Fault) → EndsIn id bytes foot → number ≡ foot.blocks
-    → frame_body id bytes foot.index number ≡ Ok body → ((entries : List Entry) → IsIndexFrom 0 0 entries foot.index → length entries ≡ foot.blocks → body ≢ index_bytes entries)
-    → IsUnfit id foot.index fault → IsOutside fault ⊎ IsRefused id len bytes fault
-refused_by_index_body id len bytes foot number body fault ends many whole none is =
-    inr (inr (inr (inr (inr (inl (record {
+pub in_fields : (foot : Foot) → IsFoot foot → IsInFields foot
+in_fields foot is = record {
+  records = let s = is.records in omega arith;
+  sum = let s = is.sum in omega arith;
+  first = let s = is.first in omega arith;
+  last = let s = is.last in omega arith;
+  index = let s = is.index in omega arith;
+  blocks = is.blocks;
+}
+
+pub numbers_kept : (foot : Foot) → IsFoot foot → AreKept (foot_numbers foot)
+numbers_kept foot is = (is.records, (is.sum, (is.first, (is.last, (is.index, tt)))))
+
+no_foot_fault : (id : FileId) (at : ℕ) (foot : Foot) (fault : Fault) → IsFoot foot → IsFootFault id at foot fault → ⊥
+no_foot_fault id at foot fault is (inl none) = absurd (omega (arith, is.some_records, none.0))
+no_foot_fault id at foot fault is (inr (inl great)) = kept_not_great id at (foot_numbers foot) fault (numbers_kept foot is) great.1
+no_foot_fault id at foot fault is (inr (inr none)) = absurd (omega (arith, is.some_blocks, none.2))
+
+-- the body of a foot is not refused
+pub foot_not_unfit : (id : FileId) (at : ℕ) (body : List ℕ) (foot : Foot) (fault : Fault) → IsFoot foot → body ≡ foot_bytes foot → IsFootUnfit id at body fault → ⊥
+foot_not_unfit id at body foot fault is spelled (inl none) = none.0 foot (in_fields foot is) spelled
+foot_not_unfit id at body foot fault is spelled (inr found) =
+    no_foot_fault id at foot fault is
+    (subst (λ (f : Foot). IsFootFault id at f fault) (one_foot found.0 foot found.1 (in_fields foot is) (sym found.2 ∙ spelled)) found.3)
+
+-- the foot that ends the bytes of a file
+foot_is : {T : Type 0} (kind : Kind T) → IsLawful kind → (id : FileId) (bytes : List ℕ) (blocks : List (List T)) (foot : Foot) → AreBlocks kind blocks → bytes ≡ numbered_frames (bodies_of kind blocks)
+    → EndsIn id bytes foot → foot ≡ foot_of kind blocks
+foot_is kind lawful id bytes blocks foot are is ends =
+    one_foot foot (foot_of kind blocks) (in_fields foot ends.is_foot) (in_fields (foot_of kind blocks) (foot_of_is_foot kind lawful blocks are))
+    (ok_same (foot_bytes foot) (foot_bytes (foot_of kind blocks)) (sym ends.whole ∙ reads_foot kind lawful id bytes blocks are is))
+
+-- what is read at the place of the index
+index_read : {T : Type 0} (kind : Kind T) → IsLawful kind → (id : FileId) (bytes : List ℕ) (blocks : List (List T)) (foot : Foot) → AreBlocks kind blocks → bytes ≡ numbered_frames (bodies_of kind blocks)
+    → foot ≡ foot_of kind blocks → frame_body id bytes foot.index foot.blocks ≡ Ok (index_bytes (index_from kind 0 blocks))
+index_read kind lawful id bytes blocks foot are is same =
+    ap (λ (f : Foot). frame_body id bytes f.index f.blocks) same ∙ reads_index kind lawful id bytes blocks are is
+
+index_here : {T : Type 0} (kind : Kind T) → IsLawful kind → (blocks : List (List T)) (foot : Foot) → AreBlocks kind blocks → foot ≡ foot_of kind blocks
+    → IsIndexFrom 0 0 (index_from kind 0 blocks) foot.index
+index_here kind lawful blocks foot are same =
+    subst (λ at. IsIndexFrom 0 0 (index_from kind 0 blocks) at) (sym (ap (λ (f : Foot). f.index) same)) (index_from_is_index kind lawful blocks are)
+
+-- foot and index of a file agree
+not_apart : {T : Type 0} (kind : Kind T) (id : FileId) (bytes : List ℕ) (blocks : List (List T)) (foot : Foot) (index : List Entry) (body : List ℕ) (fault : Fault)
+    → bytes ≡ numbered_frames (bodies_of kind blocks) → foot ≡ foot_of kind blocks → index ≡ index_from kind 0 blocks → body ≡ index_bytes (index_from kind 0 blocks)
+    → IsApart id bytes foot index body fault → ⊥
+not_apart kind id bytes blocks foot index body fault is same found spelled (inl count) =
+    count.0 (ap length found ∙ length-index_from kind 0 blocks ∙ sym (ap (λ (f : Foot). f.blocks) same))
+not_apart kind id bytes blocks foot index body fault is same found spelled (inr apart) =
+    apart.1 (let ends = file_ends kind blocks in omega (arith, ap length is, ends, ap length spelled, ap (λ (f : Foot). f.index) same))
+
+index_not_refused : {T : Type 0} (kind : Kind T) → IsLawful kind → (id : FileId) (bytes : List ℕ) (blocks : List (List T)) (foot : Foot) (fault : Fault) → AreBlocks kind blocks
+    → bytes ≡ numbered_frames (bodies_of kind blocks) → foot ≡ foot_of kind blocks → IsIndexRefused id bytes foot fault → ⊥
+index_not_refused kind lawful id bytes blocks foot fault are is same (inl damaged) =
+    ok_not_err (frame_body id bytes foot.index foot.blocks) (index_bytes (index_from kind 0 blocks)) fault (index_read kind lawful id bytes blocks foot are is same) damaged
+index_not_refused kind lawful id bytes blocks foot fault are is same (inr body) =
+    let spelled : body.0 ≡ index_bytes (index_from kind 0 blocks) = ok_same body.0 (index_bytes (index_from kind 0 blocks)) (sym body.1 ∙ index_read kind lawful id bytes blocks foot are is same) in
+    let here = index_here kind lawful blocks foot are same in
+    elim body.2 [
+      | inl unfit ↦ index_not_unfit id foot.index body.0 (index_from kind 0 blocks) fault here spelled unfit
+      | inr right ↦
+          not_apart kind id bytes blocks foot right.0 body.0 fault is same (one_index right.0 (index_from kind 0 blocks) foot.index right.1 here (sym right.2 ∙ spelled)) spelled right.3
+    ]
+
+-- a file of records that has the length that is kept is not refused
+file_not_refused : {T : Type 0} (kind : Kind T) → IsLawful kind → (id : FileId) (len : ℕ) (bytes : List ℕ) (records : List T) (fault : Fault) → IsFile kind bytes records → length bytes ≡ len
+    → IsRefused id len bytes fault → ⊥
+file_not_refused kind lawful id len bytes records fault file same (inl (inl other)) = other.0 same
+file_not_refused kind lawful id len bytes records fault file same (inl (inr short)) =
+    let ends = file_ends kind file.blocks in absurd (omega (arith, short.1, ap length file.spelling, ends))
+file_not_refused kind lawful id len bytes records fault file same (inr (long, enough, inl (inl damaged))) =
+    ok_not_err (foot_body id bytes 65 1) (foot_bytes (foot_of kind file.blocks)) fault (reads_foot kind lawful id bytes file.blocks file.are file.spelling) damaged
+file_not_refused kind lawful id len bytes records fault file same (inr (long, enough, inl (inr body))) =
+    foot_not_unfit id (length bytes - 65) body.0 (foot_of kind file.blocks) fault (foot_of_is_foot kind lawful file.blocks file.are)
+    (ok_same body.0 (foot_bytes (foot_of kind file.blocks)) (sym body.1 ∙ reads_foot kind lawful id bytes file.blocks file.are file.spelling)) body.2
+file_not_refused kind lawful id len bytes records fault file same (inr (long, enough, inr index)) =
+    index_not_refused kind lawful id bytes file.blocks index.0 fault file.are file.spelling (foot_is kind lawful id bytes file.blocks index.0 file.are file.spelling index.1) index.2
+
+-- what is kept of a file of records is that of these records
+file_holds : {T S : Type 0} (kind : Kind T) → IsLawful kind → (told : S → Option (List ℕ)) (id : FileId) (arg : S) (len : ℕ) (bytes : List ℕ) (filed : Filed S) (records : List T)
+    → told arg ≡ Some bytes → filed.file ≡ record { id = id; file = arg; len = len } → IsRead id bytes filed → IsFile kind bytes records → length bytes ≡ len → Holds kind told filed records
+file_holds {T} {S} kind lawful told id arg len bytes filed records tells same read file long =
+    let foot = foot_is kind lawful id bytes file.blocks filed.foot file.are file.spelling read.foot in
+    let opt : told filed.file.file ≡ Some bytes = ap (λ (f : SealedFile S). told f.file) same ∙ tells in
+    record {
+      blocks = file.blocks;
+      are = file.are;
+      all = file.all;
+      bytes = subst (λ o. IfSome o (λ b. b ≡ numbered_frames (bodies_of kind file.blocks))) (sym opt) file.spelling;
+      len = ap (λ (f : SealedFile S). f.len) same ∙ sym long ∙ ap length file.spelling;
       foot = foot;
-      ends = ends;
-      body = body;
-      whole = sym (ap (λ (n : ℕ). frame_body id bytes foot.index n) many) ∙ whole;
-      no_index = none;
-      fault_is = is;
-    }))))))
+      index = one_index filed.index (index_from kind 0 file.blocks) filed.foot.index read.index.right (index_here kind lawful file.blocks filed.foot file.are foot)
+          (ok_same (index_bytes filed.index) (index_bytes (index_from kind 0 file.blocks)) (sym read.index.whole ∙ index_read kind lawful id bytes file.blocks filed.foot file.are file.spelling foot));
+    }
 
-pub refused_by_gap : (id : FileId) (len : ℕ) (bytes : List ℕ) (foot : Foot) (number : ℕ) (body : List ℕ) (fault : Fault) → len ≡ length bytes → EndsIn id bytes foot → number ≡ foot.blocks
-    → frame_body id bytes foot.index number ≡ Ok body → (foot.index + length body + 20 ≢ len - 65) → fault ≡ Malformed id (len - 65) → IsOutside fault ⊎ IsRefused id len bytes fault
-refused_by_gap id len bytes foot number body fault same ends many whole apart is =
-    inr (inr (inr (inr (inr (inr (record {
-      foot = foot;
-      ends = ends;
-      body = body;
-      whole = sym (ap (λ (n : ℕ). frame_body id bytes foot.index n) many) ∙ whole;
-      apart = λ e. apart (e ∙ ap (λ n. n - 65) (sym same));
-      fault_is = is ∙ ap (λ n. Malformed id (n - 65)) same;
-    }))))))
+loaded_from : {T S : Type 0} (kind : Kind T) → IsLawful kind → (told : S → Option (List ℕ)) (id : FileId) (arg : S) (len : ℕ) (filed : Filed S) (known : Option (List ℕ)) → told arg ≡ known
+    → filed.file ≡ record { id = id; file = arg; len = len } → IfSome known (λ bytes. IsRead id bytes filed)
+    → IfSome known (λ bytes. (records : List T) → IsFile kind bytes records → length bytes ≡ len → Holds kind told filed records)
+loaded_from kind lawful told id arg len filed None tells same read = tt
+loaded_from kind lawful told id arg len filed (Some bytes) tells same read = λ records file long. file_holds kind lawful told id arg len bytes filed records tells same read file long
 
-pub told_any : {A : Type 0} (o : Option A) (P : A → Type 0) → ((a : A) → P a) → IfSome o P
-told_any None P all = tt
-told_any (Some a) P all = all a
+pub loaded : {T S : Type 0} (kind : Kind T) → IsLawful kind → (told : S → Option (List ℕ)) (id : FileId) (arg : S) (len : ℕ) (filed : Filed S)
+    → filed.file ≡ record { id = id; file = arg; len = len } → IfSome (told arg) (λ bytes. IsRead id bytes filed)
+    → IfSome (told arg) (λ bytes. (records : List T) → IsFile kind bytes records → length bytes ≡ len → Holds kind told filed records)
+loaded kind lawful told id arg len filed same read = loaded_from kind lawful told id arg len filed (told arg) refl same read
 
-pub unfit_not_memory : (id : FileId) (at : ℕ) (fault : Fault) → IsUnfit id at fault → fault ≡ NoMemory → ⊥
-unfit_not_memory id at fault (inl malformed) memory = let e : Malformed id at ≡ NoMemory = sym malformed ∙ memory in absurd cc
-unfit_not_memory id at fault (inr great) memory = let e : Damaged id at great.0 (2 ^ 62) ≡ NoMemory = sym great.2 ∙ memory in absurd cc
+-- a file of records is refused for nothing that its bytes cause
+pub not_loaded : {T V : Type 0} (kind : Kind T) → IsLawful kind → (told : Option (List ℕ)) (id : FileId) (len : ℕ) (result : Result V Fault) (fault : Fault) (P : List T → V → Type 0) → result ≡ Err fault
+    → IfSome told (λ bytes. IsOutside fault ⊎ IsRefused id len bytes fault)
+    → IfSome told (λ bytes. (records : List T) → IsFile kind bytes records → length bytes ≡ len → MatchResult result (P records) (λ f. IsOutside f))
+not_loaded {T} {V} kind lawful told id len result fault P is why =
+    some_then told (λ bytes. IsOutside fault ⊎ IsRefused id len bytes fault)
+    (λ bytes. (records : List T) → IsFile kind bytes records → length bytes ≡ len → MatchResult result (P records) (λ f. IsOutside f))
+    (λ bytes h records file long. subst (λ (r : Result V Fault). MatchResult r (P records) (λ f. IsOutside f)) (sym is)
+    (elim h [ | inl outside ↦ outside | inr refused ↦ absurd (file_not_refused kind lawful id len bytes records fault file long refused) ])) why

@@ -7,7 +7,7 @@ use Rattle.mg_model.specs.declared.documents.Doc.{Doc}
 use Rattle.mg_model.specs.declared.documents.Key.{Key}
 use Rattle.mg_model.specs.declared.documents.Item.{Item}
 use Rattle.mg_records.specs.Record.{IsLawful}
-use Rattle.mg_records.specs.FieldLaws.{number_begins, after_number}
+use Rattle.mg_frame.proofs.SplitLaws.{number_begins, after_number}
 use Rattle.mg_records.specs.Contents.{contents}
 use Rattle.mg_records.specs.ContentsLaws.{length-contents-most, contents_size-some, contents_size-most, one_contents}
 use Rattle.mg_records.specs.ItemRecord.{item_record, item_kind, ItemFits}

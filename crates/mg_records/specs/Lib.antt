@@ -1,6 +1,5 @@
 pub mod Contents
 pub mod ContentsLaws
-pub mod FieldLaws
 pub mod File
 pub mod ItemLaws
 pub mod ItemRecord

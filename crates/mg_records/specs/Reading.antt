@@ -1,14 +1,19 @@
 -- What is read of a file of records.
-use Rattle.std.specs.Prelude.{◌≡◌, ℕ, ◌+◌, ◌<◌, ◌≤◌, ◌^◌, ◌⊎◌, List, [], ◌∷◌, ◌++◌, length}
-use Rattle.std.specs.List.{Any}
+use Rattle.std.specs.Prelude.{◌≡◌, ◌≢◌, ℕ, ◌+◌, ◌-◌, ◌<◌, ◌≤◌, ◌^◌, ◌⊎◌, List, [], ◌∷◌, ◌++◌, length, slice_index_or, filter, nat_lt, Option, Some, None, Ok, Err}
+use Rattle.std.specs.List.{AllByRecursion, Any}
 use Rattle.mg_model.specs.declared.faults.Fault.{Fault}
 use Rattle.mg_model.specs.declared.faults.Fault.TheVariants.{Damaged, Malformed}
 use Rattle.mg_model.specs.declared.faults.FileId.{FileId}
-use Rattle.mg_sealed.specs.Reading.{IsDamageAt}
-use Rattle.mg_records.specs.File.{block_of}
-use Rattle.mg_records.specs.Record.{Kind}
+use Rattle.mg_sealed.specs.Blocks.{block_body, IsUnfitAt}
+use Rattle.mg_sealed.specs.Foot.{foot_body}
+use Rattle.mg_sealed.specs.Numbers.{AreKept, IsTooGreat}
+use Rattle.mg_sealed.specs.Reading.{frame_body}
+use Rattle.mg_records.specs.File.{block_of, entry_bytes, foot_bytes, index_bytes, record_of}
+use Rattle.mg_records.specs.Record.{Kind, Measures}
+use Rattle.mg_records.specs.Writing.{Filed}
 use Rattle.mg_records.specs.declared.foot.Foot.{Foot}
 use Rattle.mg_records.specs.declared.index.Entry.{Entry}
+use Rattle.mg_records.specs.declared.record.Front.TheVariants.{Great, Outside}
 
 -- the numbers fit their fields
 pub record IsInFields (foot : Foot) : Type 0 where
@@ -44,13 +49,116 @@ IsIndexFrom least at (entry ∷ entries) end =
     (least ≤ entry.first) × (entry.first < 2 ^ 62) × (entry.at ≡ at) × (at < 2 ^ 62) × (entry.len < 2 ^ 32)
     × IsIndexFrom (entry.first + 1) (at + entry.len) entries end
 
--- a body at this place is outside its grammar, or has a number that is too great
-abbrev pub IsUnfit : FileId → ℕ → Fault → Type 0
-IsUnfit id at fault = (fault ≡ Malformed id at) ⊎ ((number : ℕ) × (2 ^ 62 ≤ number) × (fault ≡ Damaged id at number (2 ^ 62)))
+-- the numbers of a foot before its number of blocks
+abbrev pub foot_numbers : Foot → List ℕ
+foot_numbers foot = foot.records ∷ foot.sum ∷ foot.first ∷ foot.last ∷ foot.index ∷ []
+
+-- what is wrong with a foot at this place, from left to right: it has no record, a number is too great, or it has no block
+abbrev pub IsFootFault : FileId → ℕ → Foot → Fault → Type 0
+IsFootFault id at foot fault =
+    ((foot.records ≡ 0) × (fault ≡ Malformed id at))
+    ⊎ ((1 ≤ foot.records) × IsTooGreat id at (foot_numbers foot) fault)
+    ⊎ ((1 ≤ foot.records) × AreKept (foot_numbers foot) × (foot.blocks ≡ 0) × (fault ≡ Malformed id at))
+
+-- what is wrong with a body at this place that is not that of a foot of a file: its form, or what it says
+abbrev pub IsFootUnfit : FileId → ℕ → List ℕ → Fault → Type 0
+IsFootUnfit id at body fault =
+    (((foot : Foot) → IsInFields foot → body ≢ foot_bytes foot) × (fault ≡ Malformed id at))
+    ⊎ ((foot : Foot) × IsInFields foot × (body ≡ foot_bytes foot) × IsFootFault id at foot fault)
+
+-- the least first number that may follow these items, where `least` is that of the first one
+abbrev pub least_after : ℕ → List Entry → ℕ
+least_after least [] = least
+least_after least (entry ∷ entries) = least_after (entry.first + 1) entries
+
+-- What is wrong with an item of an index at this place that should have a first number of at least `least` and the place `place`,
+-- from left to right: its first number is too great or does not rise, or its place is too great or another one.
+abbrev pub IsEntryUnfit : FileId → ℕ → ℕ → ℕ → Entry → Fault → Type 0
+IsEntryUnfit id at least place entry fault =
+    IsTooGreat id at (entry.first ∷ []) fault
+    ⊎ ((entry.first < 2 ^ 62) × (entry.first < least) × (fault ≡ Malformed id at))
+    ⊎ ((entry.first < 2 ^ 62) × (least ≤ entry.first) × IsTooGreat id at (entry.at ∷ []) fault)
+    ⊎ ((entry.first < 2 ^ 62) × (least ≤ entry.first) × (entry.at < 2 ^ 62) × (entry.at ≢ place) × (fault ≡ Malformed id at))
+
+-- Where an index at this place stops: its next item is wrong, or there is no further item, and bytes are left, or the frames of the
+-- blocks do not end at this place.
+abbrev pub IsStop : FileId → ℕ → ℕ → ℕ → List ℕ → Fault → Type 0
+IsStop id at least place rest fault =
+    ((entry : Entry) × (behind : List ℕ) × IsEntry entry × (rest ≡ entry_bytes entry ++ behind) × IsEntryUnfit id at least place entry fault)
+    ⊎ (((entry : Entry) (behind : List ℕ) → IsEntry entry → rest ≢ entry_bytes entry ++ behind) × ((rest ≢ []) ⊎ (place ≢ at)) × (fault ≡ Malformed id at))
+
+-- The body begins with items that are right, and stops behind them.
+pub record IsIndexUnfit (id : FileId) (at : ℕ) (body : List ℕ) (fault : Fault) : Type 0 where
+  pub front : List Entry
+  pub place : ℕ
+  pub right : IsIndexFrom 0 0 front place
+  pub rest : List ℕ
+  pub body_is : body ≡ index_bytes front ++ rest
+  pub stops : IsStop id at (least_after 0 front) place rest fault
+
+-- the foot that ends the bytes
+pub record EndsIn (id : FileId) (bytes : List ℕ) (foot : Foot) : Type 0 where
+  pub is_foot : IsFoot foot
+  pub whole : foot_body id bytes 65 1 ≡ Ok (foot_bytes foot)
+
+-- the index that stands where this foot says, of as many blocks, and which the frame of the foot follows
+pub record IsIndexOf (id : FileId) (bytes : List ℕ) (foot : Foot) (index : List Entry) : Type 0 where
+  pub right : IsIndexFrom 0 0 index foot.index
+  pub whole : frame_body id bytes foot.index foot.blocks ≡ Ok (index_bytes index)
+  pub count : length index ≡ foot.blocks
+  pub follows : foot.index + length (index_bytes index) + 20 ≡ length bytes - 65
+
+-- The foot and the index that are kept of a file are those of its bytes.
+pub record IsRead {S : Type 0} (id : FileId) (bytes : List ℕ) (filed : Filed S) : Type 0 where
+  pub foot : EndsIn id bytes filed.foot
+  pub index : IsIndexOf id bytes filed.foot filed.index
 
 -- a block of this index is damaged, or its body is outside its grammar
 abbrev pub IsBlockFault : FileId → List Entry → Fault → Type 0
-IsBlockFault id index fault = Any (λ entry. IsDamageAt id entry.at fault ⊎ (fault ≡ Malformed id entry.at)) index
+IsBlockFault id index fault = Any (λ entry. IsUnfitAt id entry.at fault) index
+
+-- bytes of a block at this place begin with no record: the number that stands there is too great, or there is none
+abbrev pub IsRecordUnfit : {T : Type 0} → Kind T → FileId → ℕ → List ℕ → Fault → Type 0
+IsRecordUnfit kind id at bytes fault =
+    ((number : ℕ) × Measures kind bytes (Great number) × (fault ≡ Damaged id at number (2 ^ 62)))
+    ⊎ (Measures kind bytes Outside × (fault ≡ Malformed id at))
+
+-- The body of a block at this place begins with records that may stand in a file, and what is left behind them with none.
+pub record IsBlockUnfit {T : Type 0} (kind : Kind T) (id : FileId) (at : ℕ) (body : List ℕ) (fault : Fault) : Type 0 where
+  pub front : List T
+  pub rest : List ℕ
+  pub fit : AllByRecursion kind.fits front
+  pub body_is : body ≡ block_of kind front ++ rest
+  pub some : rest ≢ []
+  pub unfit : IsRecordUnfit kind id at rest fault
+
+-- the body is so, and none of the records that it begins with has this number
+abbrev pub IsUnfitFor : {T : Type 0} → Kind T → ℕ → FileId → ℕ → List ℕ → Fault → Type 0
+IsUnfitFor kind number id at body fault = (unfit : IsBlockUnfit kind id at body fault) × (record_of kind number unfit.front ≡ None)
+
+-- what is found of a number in a body: the first record of this number, or none where each of its records has another one
+abbrev pub IsFoundIn : {T : Type 0} → Kind T → ℕ → List ℕ → Option T → Type 0
+IsFoundIn {T} kind number body None =
+    (records : List T) × AllByRecursion kind.fits records × (body ≡ block_of kind records) × (record_of kind number records ≡ None)
+IsFoundIn {T} kind number body (Some it) =
+    (front : List T) × (rest : List ℕ) × AllByRecursion kind.fits front × kind.fits it × (kind.seq it ≡ number)
+    × (record_of kind number front ≡ None) × (body ≡ block_of kind front ++ kind.spelled it ++ rest)
+
+-- the body is that of a block of records, of which those with numbers above `after` were put behind the old ones
+abbrev pub IsScanned : {T : Type 0} → Kind T → ℕ → List ℕ → List T → List T → Type 0
+IsScanned {T} kind after body old new =
+    (records : List T) × AllByRecursion kind.fits records × (body ≡ block_of kind records)
+    × (new ≡ old ++ filter (λ it. nat_lt after (kind.seq it)) records)
+
+-- What is wrong with a block of this index: its frame, or its body. P says what is wrong with a body at its place.
+pub record IsBlockRefused (id : FileId) (bytes : List ℕ) (index : List Entry) (P : ℕ → List ℕ → Fault → Type 0) (fault : Fault) : Type 0 where
+  -- from 0 on
+  pub number : ℕ
+  pub entry : Entry
+  pub within : number < length index
+  pub entry_is : slice_index_or index number entry ≡ entry
+  pub why : (block_body id bytes entry.at entry.len number ≡ Err fault)
+      ⊎ ((body : List ℕ) × (block_body id bytes entry.at entry.len number ≡ Ok body) × P entry.at body fault)
 
 -- The body is that of the block of this number, from 0 on.
 pub record IsBlock {T : Type 0} (kind : Kind T) (blocks : List (List T)) (number : ℕ) (body : List ℕ) : Type 0 where

@@ -1,58 +1,43 @@
 -- Why bytes, of which a length is kept, are not a file of records.
-use Rattle.std.specs.Prelude.{◌≡◌, ◌≢◌, ℕ, ◌+◌, ◌-◌, ◌<◌, ◌⊎◌, List, length, Ok, Err}
+use Rattle.std.specs.Prelude.{◌≡◌, ◌≢◌, ℕ, ◌+◌, ◌-◌, ◌<◌, ◌≤◌, ◌⊎◌, List, length, Ok, Err}
 use Rattle.mg_model.specs.declared.faults.Fault.{Fault}
 use Rattle.mg_model.specs.declared.faults.Fault.TheVariants.{Damaged, Malformed}
 use Rattle.mg_model.specs.declared.faults.FileId.{FileId}
 use Rattle.mg_sealed.specs.Foot.{foot_body}
 use Rattle.mg_sealed.specs.Reading.{frame_body}
-use Rattle.mg_records.specs.File.{foot_bytes, index_bytes}
-use Rattle.mg_records.specs.Reading.{IsFoot, IsIndexFrom, IsUnfit}
+use Rattle.mg_records.specs.File.{index_bytes}
+use Rattle.mg_records.specs.Reading.{EndsIn, IsFootUnfit, IsIndexFrom, IsIndexUnfit}
 use Rattle.mg_records.specs.declared.foot.Foot.{Foot}
 use Rattle.mg_records.specs.declared.index.Entry.{Entry}
 
 -- they have another length, or are too short for the frame of a foot
 abbrev pub IsLengthFault : FileId → ℕ → List ℕ → Fault → Type 0
 IsLengthFault id len bytes fault =
-    ((length bytes ≢ len) × (fault ≡ Damaged id 0 len (length bytes))) ⊎ ((length bytes < 65) × (fault ≡ Damaged id 0 65 (length bytes)))
+    ((length bytes ≢ len) × (fault ≡ Damaged id 0 len (length bytes)))
+    ⊎ ((length bytes ≡ len) × (length bytes < 65) × (fault ≡ Damaged id 0 65 (length bytes)))
 
--- The frame of the foot is whole, and its body is not that of a foot.
-pub record IsFootFault (id : FileId) (bytes : List ℕ) (fault : Fault) : Type 0 where
-  pub body : List ℕ
-  pub whole : foot_body id bytes 65 1 ≡ Ok body
-  pub no_foot : (foot : Foot) → IsFoot foot → body ≢ foot_bytes foot
-  pub fault_is : IsUnfit id (length bytes - 65) fault
+-- what is wrong with the foot that ends the bytes: its frame, or what its body says
+abbrev pub IsFootRefused : FileId → List ℕ → Fault → Type 0
+IsFootRefused id bytes fault =
+    (foot_body id bytes 65 1 ≡ Err fault)
+    ⊎ ((body : List ℕ) × (foot_body id bytes 65 1 ≡ Ok body) × IsFootUnfit id (length bytes - 65) body fault)
 
--- the foot that ends the bytes
-pub record EndsIn (id : FileId) (bytes : List ℕ) (foot : Foot) : Type 0 where
-  pub is_foot : IsFoot foot
-  pub whole : foot_body id bytes 65 1 ≡ Ok (foot_bytes foot)
+-- The body is an index that is right, and the foot says another number of blocks, or does not follow it.
+abbrev pub IsApart : FileId → List ℕ → Foot → List Entry → List ℕ → Fault → Type 0
+IsApart id bytes foot index body fault =
+    ((length index ≢ foot.blocks) × (fault ≡ Malformed id foot.index))
+    ⊎ ((length index ≡ foot.blocks) × (foot.index + length body + 20 ≢ length bytes - 65) × (fault ≡ Malformed id (length bytes - 65)))
 
--- The frame of the index is damaged.
-pub record IsIndexDamage (id : FileId) (bytes : List ℕ) (fault : Fault) : Type 0 where
-  pub foot : Foot
-  pub ends : EndsIn id bytes foot
-  pub damage : frame_body id bytes foot.index foot.blocks ≡ Err fault
+-- what is wrong with the index where the foot says that it stands: its frame, what its body says, or that foot and index don't agree
+abbrev pub IsIndexRefused : FileId → List ℕ → Foot → Fault → Type 0
+IsIndexRefused id bytes foot fault =
+    (frame_body id bytes foot.index foot.blocks ≡ Err fault)
+    ⊎ ((body : List ℕ) × (frame_body id bytes foot.index foot.blocks ≡ Ok body)
+    × (IsIndexUnfit id foot.index body fault
+    ⊎ ((index : List Entry) × IsIndexFrom 0 0 index foot.index × (body ≡ index_bytes index) × IsApart id bytes foot index body fault)))
 
--- The frame of the index is whole, and its body is not an index of the foot's number of blocks, which end where it stands.
-pub record IsIndexFault (id : FileId) (bytes : List ℕ) (fault : Fault) : Type 0 where
-  pub foot : Foot
-  pub ends : EndsIn id bytes foot
-  pub body : List ℕ
-  pub whole : frame_body id bytes foot.index foot.blocks ≡ Ok body
-  pub no_index : (entries : List Entry) → IsIndexFrom 0 0 entries foot.index → length entries ≡ foot.blocks → body ≢ index_bytes entries
-  pub fault_is : IsUnfit id foot.index fault
-
--- The frame of the index is whole, and the foot does not follow it.
-pub record IsGap (id : FileId) (bytes : List ℕ) (fault : Fault) : Type 0 where
-  pub foot : Foot
-  pub ends : EndsIn id bytes foot
-  pub body : List ℕ
-  pub whole : frame_body id bytes foot.index foot.blocks ≡ Ok body
-  pub apart : foot.index + length body + 20 ≢ length bytes - 65
-  pub fault_is : fault ≡ Malformed id (length bytes - 65)
-
--- what the bytes are refused by, judged in this order
+-- what the bytes are refused by, judged in this order: their length, their foot, or the index that this foot names
 abbrev pub IsRefused : FileId → ℕ → List ℕ → Fault → Type 0
 IsRefused id len bytes fault =
-    IsLengthFault id len bytes fault ⊎ (foot_body id bytes 65 1 ≡ Err fault) ⊎ IsFootFault id bytes fault
-    ⊎ IsIndexDamage id bytes fault ⊎ IsIndexFault id bytes fault ⊎ IsGap id bytes fault
+    IsLengthFault id len bytes fault
+    ⊎ ((length bytes ≡ len) × (65 ≤ len) × (IsFootRefused id bytes fault ⊎ ((foot : Foot) × EndsIn id bytes foot × IsIndexRefused id bytes foot fault)))

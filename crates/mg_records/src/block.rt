@@ -1,13 +1,11 @@
 //! The records of a block.
 
-ghost use Rattle.std.specs.Prelude.{◌≡◌, ℕ, ◌<◌, ◌⊎◌, ◌++◌, List, length, filter, nat_lt, IfOk, IfErr, IsOkAnd, MatchResult};
-ghost use Rattle.std.specs.List.{AllByRecursion};
-ghost use Rattle.mg_records.specs.File.{block_of, record_of};
-ghost use Rattle.mg_records.specs.Reading.{IsUnfit};
-ghost use Rattle.mg_records.specs.Record.{IsSpelling};
+ghost use Rattle.std.specs.Prelude.{◌≡◌, ◌<◌, ◌⊎◌, ◌++◌, length, IfOk, IfErr};
+ghost use Rattle.mg_records.specs.Reading.{IsBlockUnfit, IsFoundIn, IsRecordUnfit, IsScanned, IsUnfitFor};
 
 use crate::record::{Front, Record};
 use mg_model::{Fault, FileId};
+use mg_sealed::NUMBER_LIMIT;
 use std::alloc::Global;
 
 /// A record's number and bytes, and the bytes that follow it.
@@ -26,9 +24,8 @@ pub(crate) fn find_in_block<R: Record>(
     block: &[u8],
     number: u64,
 ) -> Result<Option<R>, Fault>
-    ensures found { (records : List R) → AllByRecursion R.kind.fits records → block.now ≡ block_of R.kind records →
-        MatchResult result (λ found. found ≡ record_of R.kind number records) (λ fault. fault ≡ Fault.NoMemory) }
-    ensures refusals { IfErr result (λ fault. IsUnfit id at fault ⊎ (fault ≡ Fault.NoMemory)) }
+    ensures found { IfOk result (λ found. IsFoundIn R.kind number block.now found) }
+    ensures refusals { IfErr result (λ fault. (fault ≡ Fault.NoMemory) ⊎ IsUnfitFor R.kind number id at block.now fault) }
 {
     let mut rest = block;
     while !rest.is_empty() {
@@ -50,10 +47,8 @@ pub(crate) fn scan_block<R: Record>(
     after: u64,
     records: &mut Vec<R>,
 ) -> Result<(), Fault>
-    ensures scanned { (all : List R) → AllByRecursion R.kind.fits all → block.now ≡ block_of R.kind all →
-        MatchResult result (λ _. records.new.items ≡ records.old.items ++ filter (λ it. nat_lt after (R.kind.seq it)) all)
-        (λ fault. fault ≡ Fault.NoMemory) }
-    ensures refusals { IfErr result (λ fault. IsUnfit id at fault ⊎ (fault ≡ Fault.NoMemory)) }
+    ensures scanned { IfOk result (λ _. IsScanned R.kind after block.now records.old.items records.new.items) }
+    ensures refusals { IfErr result (λ fault. (fault ≡ Fault.NoMemory) ⊎ IsBlockUnfit R.kind id at block.now fault) }
 {
     let mut rest = block;
     while !rest.is_empty() {
@@ -68,11 +63,10 @@ pub(crate) fn scan_block<R: Record>(
 
 /// The record at the front of bytes of a block, which stands at a place of a file.
 fn split_record<R: Record>(id: FileId, at: u64, bytes: &[u8]) -> Result<Split<'_>, Fault>
-    ensures spelled { IfOk result (λ split. IsSpelling R.kind split.record.now × (bytes.now ≡ split.record.now ++ split.rest.now)) }
+    ensures spelled { IfOk result (λ split. (it : R) × R.kind.fits it × (split.number ≡ R.kind.seq it)
+        × (split.record.now ≡ R.kind.spelled it) × (bytes.now ≡ split.record.now ++ split.rest.now)) }
     ensures shorter { IfOk result (λ split. length split.rest.now < length bytes.now) }
-    ensures refusals { IfErr result (λ fault. IsUnfit id at fault) }
-    ensures next { (it : R) (left : List ℕ) → R.kind.fits it → bytes.now ≡ R.kind.spelled it ++ left →
-        IsOkAnd result (λ split. (split.number ≡ R.kind.seq it) × (split.record.now ≡ R.kind.spelled it) × (split.rest.now ≡ left)) }
+    ensures refusals { IfErr result (λ fault. IsRecordUnfit R.kind id at bytes.now fault) }
 {
     match R::measure(bytes) {
         Front::Whole { seq, size: _, len } => {
@@ -87,7 +81,7 @@ fn split_record<R: Record>(id: FileId, at: u64, bytes: &[u8]) -> Result<Split<'_
             file: id,
             at,
             kept: number,
-            found: 1 << 62,
+            found: NUMBER_LIMIT,
         }),
         Front::Outside => Err(Fault::Malformed { file: id, at }),
     }

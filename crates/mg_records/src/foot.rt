@@ -2,13 +2,12 @@
 
 ghost use Rattle.std.specs.Prelude.{◌≡◌, ◌++◌, IfErr, IfOk, IfSome, OnOk};
 ghost use Rattle.mg_records.specs.File.{foot_bytes};
-ghost use Rattle.mg_records.specs.Reading.{IsFoot, IsInFields, IsUnfit};
+ghost use Rattle.mg_records.specs.Reading.{IsFoot, IsFootUnfit, IsInFields};
 ghost use Rattle.mg_records.specs.declared.foot.Foot.{Foot};
 
-use crate::fields::{split_u8, split_u32, split_u64};
-use mg_frame::{put_u8, put_u32, put_u64};
+use mg_frame::{put_u8, put_u32, put_u64, split_u8, split_u32, split_u64};
 use mg_model::{Fault, FileId};
-use mg_sealed::checked_number;
+use mg_sealed::check_numbers;
 use std::alloc::AllocError;
 
 /// The format of files that this crate writes.
@@ -46,7 +45,7 @@ pub(crate) fn put_foot(foot: &Foot, out: &mut Vec<u8>) -> Result<(), AllocError>
 
 /// The foot of this body, or none where it has another length or another format.
 pub(crate) fn split_foot(body: &[u8]) -> Option<Foot>
-    ensures split { IfSome result (λ foot. body.now ≡ foot_bytes foot) }
+    ensures split { IfSome result (λ foot. IsInFields foot × (body.now ≡ foot_bytes foot)) }
     ensures written { (foot : Foot) → IsInFields foot → body.now ≡ foot_bytes foot → result ≡ Some foot }
 {
     let (format, rest) = split_u8(body)?;
@@ -73,21 +72,23 @@ pub(crate) fn split_foot(body: &[u8]) -> Option<Foot>
 }
 
 /// The foot of this body, which stands at a place of a file: one of at least one block and one record, whose numbers are below
-/// 2^62.
+/// 2^62. They are judged from left to right.
 pub(crate) fn read_foot_body(id: FileId, at: u64, body: &[u8]) -> Result<Foot, Fault>
-    ensures written { (foot : Foot) → IsFoot foot → body.now ≡ foot_bytes foot → result ≡ Ok foot }
     ensures is_foot { IfOk result (λ foot. IsFoot foot × (body.now ≡ foot_bytes foot)) }
-    ensures refusals { IfErr result (λ fault. IsUnfit id at fault) }
+    ensures refusals { IfErr result (λ fault. IsFootUnfit id at body.now fault) }
 {
     let Some(foot) = split_foot(body) else {
         return Err(Fault::Malformed { file: id, at });
     };
-    checked_number(id, at, foot.records)?;
-    checked_number(id, at, foot.sum)?;
-    checked_number(id, at, foot.first)?;
-    checked_number(id, at, foot.last)?;
-    checked_number(id, at, foot.index)?;
-    if foot.records == 0 || foot.blocks == 0 {
+    if foot.records == 0 {
+        return Err(Fault::Malformed { file: id, at });
+    }
+    check_numbers(
+        id,
+        at,
+        &[foot.records, foot.sum, foot.first, foot.last, foot.index],
+    )?;
+    if foot.blocks == 0 {
         return Err(Fault::Malformed { file: id, at });
     }
     Ok(foot)

@@ -9,10 +9,8 @@ use crate::contents::Contents;
 use crate::record::{Front, Record};
 use mg_frame::{get_u64, put_u64};
 use mg_model::Item;
+use mg_sealed::NUMBER_LIMIT;
 use std::alloc::{AllocError, Global};
-
-/// Numbers that a file keeps are below this one.
-const NUMBER_LIMIT: u64 = 1 << 62;
 
 /// The bytes of a number.
 const NUMBER_LEN: usize = 8;

@@ -3,7 +3,6 @@
 
 mod block;
 mod contents;
-mod fields;
 mod file;
 mod foot;
 mod index;

@@ -1,22 +1,22 @@
 //! Records of a file are found by their numbers.
 
-ghost use Rattle.std.specs.Prelude.{◌≡◌, ◌+◌, ◌<◌, ◌≤◌, ◌⊎◌, List, length, slice_index_or, filter, nat_lt, IfOk, IfErr, IsSome, MatchResult, Ok, None};
+ghost use Rattle.std.specs.Prelude.{◌≡◌, ◌<◌, ◌≤◌, ◌⊎◌, List, length, slice_index_or, filter, nat_lt, IfErr, IfSome, IsSome, MatchResult, Ok, None};
 ghost use Rattle.std.specs.List.Sorted.{IsNonDecreasingBy, IsPartitionPoint};
 ghost use Rattle.mg_faults.specs.Causes.{HasCause};
 ghost use Rattle.mg_records.specs.File.{record_of};
-ghost use Rattle.mg_records.specs.Reading.{IsBlock, IsBlockFault};
+ghost use Rattle.mg_records.specs.Reading.{IsBlock, IsBlockFault, IsBlockRefused, IsBlockUnfit, IsUnfitFor};
 ghost use Rattle.mg_records.specs.Writing.{Holds};
 ghost use Rattle.mg_records.specs.declared.index.Entry.{Entry};
-ghost use Rattle.mg_sealed.specs.Answers.{IsOutside};
+ghost use Rattle.mg_sealed.specs.Answers.{Answers, IsOutside};
+ghost use Rattle.mg_sealed.specs.Blocks.{block_body};
 
 use crate::block::{find_in_block, scan_block};
 use crate::file::RecordFile;
 use crate::index::Entry;
 use crate::record::Record;
 use mg_disk::Files;
-use mg_frame::FRAME_OVERHEAD;
 use mg_model::Fault;
-use mg_sealed::{Frame, read_frame};
+use mg_sealed::{Frame, read_block};
 use std::alloc::Global;
 
 /// The record of this number. Reads no block where the number is not from the first to the last one of the file, and else at
@@ -30,6 +30,8 @@ pub fn get_record<F: Files, R: Record>(
     ensures found { IsSome (F.told file.now.file.file) → (records : List R) → Holds R.kind F.told file.now records →
         MatchResult result (λ found. found ≡ record_of R.kind number records) (λ fault. IsOutside fault) }
     ensures unread { (number < file.now.foot.first) ⊎ (file.now.foot.last < number) → (port.new ≡ port.old) × (result ≡ Ok None) }
+    ensures causes { IfErr result (λ fault. IfSome (F.told file.now.file.file) (λ bytes. file.now.file.len ≡ length bytes →
+        IsOutside fault ⊎ IsBlockRefused file.now.file.id bytes file.now.index (IsUnfitFor R.kind number file.now.file.id) fault)) }
     ensures refusals { IfErr result (λ fault. IsOutside fault ⊎ IsBlockFault file.now.file.id file.now.index fault) }
     ensures cause { HasCause Fault.ReadFault (F.faults port.old) (F.faults port.new) result }
 {
@@ -40,7 +42,7 @@ pub fn get_record<F: Files, R: Record>(
     if behind == 0 {
         return Ok(None);
     }
-    let frame = read_block::<F, R>(alloc, port, file, behind - 1)?;
+    let frame = read_numbered::<F, R>(alloc, port, file, behind - 1)?;
     let at = file.index[behind - 1].at;
     find_in_block(alloc, file.file.id, at, frame.body(), number)
 }
@@ -56,6 +58,8 @@ pub fn scan_records<F: Files, R: Record>(
     ensures scanned { IsSome (F.told file.now.file.file) → (records : List R) → Holds R.kind F.told file.now records →
         MatchResult result (λ found. found.items ≡ filter (λ it. nat_lt after (R.kind.seq it)) records) (λ fault. IsOutside fault) }
     ensures unread { file.now.foot.last ≤ after → port.new ≡ port.old }
+    ensures causes { IfErr result (λ fault. IfSome (F.told file.now.file.file) (λ bytes. file.now.file.len ≡ length bytes →
+        IsOutside fault ⊎ IsBlockRefused file.now.file.id bytes file.now.index (IsBlockUnfit R.kind file.now.file.id) fault)) }
     ensures refusals { IfErr result (λ fault. IsOutside fault ⊎ IsBlockFault file.now.file.id file.now.index fault) }
     ensures cause { HasCause Fault.ReadFault (F.faults port.old) (F.faults port.new) result }
 {
@@ -65,7 +69,7 @@ pub fn scan_records<F: Files, R: Record>(
     }
     let start = blocks_up_to(&file.index, after).saturating_sub(1);
     for number in start..file.index.len() {
-        let frame = read_block::<F, R>(alloc, port, file, number)?;
+        let frame = read_numbered::<F, R>(alloc, port, file, number)?;
         let at = file.index[number].at;
         scan_block(alloc, file.file.id, at, frame.body(), after, &mut records)?;
     }
@@ -82,7 +86,7 @@ fn blocks_up_to(index: &[Entry], number: u64) -> usize
 }
 
 /// Reads the frame of the block of this number, from 0 on. One of another length than the index says is malformed.
-fn read_block<F: Files, R: Record>(
+fn read_numbered<F: Files, R: Record>(
     alloc: Global,
     port: &mut F,
     file: &RecordFile<F::Sealed>,
@@ -91,24 +95,19 @@ fn read_block<F: Files, R: Record>(
     requires { number < length file.now.index }
     ensures read { IsSome (F.told file.now.file.file) → (records : List R) → (holds : Holds R.kind F.told file.now records) →
         MatchResult result (λ body. IsBlock R.kind holds.blocks number body) (λ fault. IsOutside fault) }
-    ensures whole { (d : Entry) → IfOk result (λ body. length body + 20 ≡ (slice_index_or file.now.index number d).len) }
+    ensures told { (entry : Entry) → slice_index_or file.now.index number entry ≡ entry →
+        IfSome (F.told file.now.file.file) (λ bytes. file.now.file.len ≡ length bytes →
+        Answers (block_body file.now.file.id bytes entry.at entry.len number) result) }
     ensures refusals { IfErr result (λ fault. IsOutside fault ⊎ IsBlockFault file.now.file.id file.now.index fault) }
     ensures cause { HasCause Fault.ReadFault (F.faults port.old) (F.faults port.new) result }
 {
     let entry = file.index[number];
-    let frame = read_frame(
+    read_block(
         alloc,
         port,
         &file.file,
         entry.at,
-        entry.len as usize,
+        entry.len,
         number as u64,
-    )?;
-    if frame.body().len() as u64 + FRAME_OVERHEAD as u64 != u64::from(entry.len) {
-        return Err(Fault::Malformed {
-            file: file.file.id,
-            at: entry.at,
-        });
-    }
-    Ok(frame)
+    )
 }

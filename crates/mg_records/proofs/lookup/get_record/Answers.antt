@@ -1,12 +1,17 @@
-use Rattle.std.proofs.Common.{◌≡◌, ◌+◌, ◌-◌, ◌<◌, ◌≤◌, ◌∙◌, length, sym, ap, subst, arith, slice_index_or}
+use Rattle.std.proofs.Common.{◌≡◌, ◌+◌, ◌-◌, ◌<◌, ◌≤◌, ◌∙◌, ◌⊎◌, length, IfSome, sym, ap, subst, arith, slice_index_or}
 use Rattle.std.proofs.lemmas.Grind.{common_steps}
 use Rattle.std.specs.List.Sorted.{IsPartitionPoint}
 use Rattle.mg_sealed.specs.Filling.{items_of}
-use Rattle.mg_records.specs.File.{first_number, last_number, index_from, record_of, AreBlocks}
+use Rattle.mg_model.specs.declared.faults.Fault.TheVariants.{NoMemory}
+use Rattle.mg_sealed.specs.Answers.{IsOutside}
+use Rattle.mg_sealed.proofs.AnswerLaws.{err_is, err_then}
+use Rattle.mg_records.specs.Reading.{IsBlockFault, IsBlockRefused, IsBlockUnfit, IsFoundIn, IsUnfitFor}
+use Rattle.mg_records.specs.File.{block_of, first_number, last_number, index_from, record_of, AreBlocks}
 use Rattle.mg_records.specs.Writing.{Filed}
 use Rattle.mg_records.specs.declared.foot.Foot.{Foot}
 use Rattle.mg_records.specs.declared.index.Entry.{Entry}
-use Rattle.mg_records.proofs.LookupLaws.{none_below_first, none_above_last, none_begins, found_in, point_of, no_entry, fits-parts, outside_answer, memory_answer, faults_are, block_fault}
+use Rattle.mg_records.proofs.LookupLaws.{none_below_first, none_above_last, none_begins, found_in, point_of, no_entry, fits-parts, outside_answer, right_answer, entry_there, first_of_both, block_fault, body_refused, frame_refused}
+use Rattle.mg_records.proofs.ScanLaws.{block_not_unfit, found_right}
 use Rattle.mg_records.proofs.lookup.get_record.Goals as goal
 use Rattle.mg_records.proofs.lookup.get_record.Goals.{then-number-first-via-then-number-first, then-number-first-via-else-number-first+then-number-last}
 
@@ -42,27 +47,69 @@ returns-in_err-frame-clause-found g c = λ some records holds.
 pub returns-clause-found : goal.returns-clause-found
 returns-clause-found g c = λ some records holds.
     let kind = g.R.Record.kind in
+    let lawful = g.met.R.Record.lawful in
     let number = c.args.number in
     let blocks = holds.blocks in
     let behind = c.blocks_up_to-behind.result in
+    let body = c.body.result.now in
     let is : c.deref.result.now ≡ index_from kind 0 blocks = c.deref.ensures.value ∙ ap (λ (f : Filed g.row.F-Sealed.Denot). f.index) c.file.view_is ∙ holds.index in
-    let point = point_of kind g.met.R.Record.lawful blocks holds.are c.deref.result.now number behind is c.blocks_up_to-behind.ensures.point in
+    let point = point_of kind lawful blocks holds.are c.deref.result.now number behind is c.blocks_up_to-behind.ensures.point in
     let b = c.in_ok-frame.ensures.read some records holds in
     let many : length b.before + 1 ≡ behind = omega (arith, b.many, c.if-behind-eq0.false) in
     let fit = fits-parts kind b.before b.block b.later (subst (λ bs. AreBlocks kind bs) b.all holds.are).fit in
-    let answer = c.find_in_block.ensures.found b.block fit (c.body.ensures ∙ b.spelling) in
+    let spelled : body ≡ block_of kind b.block = c.body.ensures ∙ b.spelling in
     let same : record_of kind number b.block ≡ record_of kind number records =
     sym (found_in kind blocks holds.are number behind no_entry b.before b.block b.later point b.all many) ∙ ap (record_of kind number) holds.all in
-    memory_answer c.find_in_block.result (λ found. found ≡ record_of kind number b.block) _ (λ found at. at ∙ same) answer
+    right_answer c.find_in_block.result (λ found. IsFoundIn kind number body found) (λ found. found ≡ record_of kind number records)
+    (λ f. IsUnfitFor kind number c.file.inside.file.id c.index.result.now.at body f)
+    (λ found here. found_right kind lawful number body b.block found fit spelled here ∙ same)
+    (λ f unfit. block_not_unfit kind lawful c.file.inside.file.id c.index.result.now.at body b.block f fit spelled unfit.0)
+    c.find_in_block.ensures.found c.find_in_block.ensures.refusals
 
 pub returns-clause-refusals : goal.returns-clause-refusals
 returns-clause-refusals g c =
+    let kind = g.R.Record.kind in
     let filed = c.args.file.now in
     let k = c.blocks_up_to-behind.result - 1 in
     let entry = c.index.result.now in
+    let body = c.body.result.now in
     let index : c.deref.result.now ≡ filed.index = c.deref.ensures.value ∙ ap (λ (f : Filed g.row.F-Sealed.Denot). f.index) c.file.view_is in
     let within : k < length filed.index = omega (arith, c.blocks_up_to-behind.ensures.bound, ap length index, c.if-behind-eq0.false) in
     let is : slice_index_or filed.index k entry ≡ entry = grind (arith, common_steps) in
     let id : c.file.inside.file.id ≡ filed.file.id = ap (λ (f : Filed g.row.F-Sealed.Denot). f.file.id) c.file.view_is in
-    faults_are c.find_in_block.result _ _ (λ fault unfit. block_fault filed.file.id filed.index k entry within is fault unfit)
-    (grind (arith, common_steps))
+    err_then c.find_in_block.result (λ fault. (fault ≡ NoMemory) ⊎ IsUnfitFor kind c.args.number c.file.inside.file.id entry.at body fault) (λ fault. IsOutside fault ⊎ IsBlockFault filed.file.id filed.index fault)
+    (λ fault result unfit. block_fault kind filed.file.id filed.index k entry body fault within is (subst (λ i. (fault ≡ NoMemory) ⊎ IsBlockUnfit kind i entry.at body fault) id (first_of_both _ _ _ unfit)))
+    c.find_in_block.ensures.refusals
+
+pub returns-in_err-frame-clause-causes : goal.returns-in_err-frame-clause-causes
+returns-in_err-frame-clause-causes g c =
+    let kind = g.R.Record.kind in
+    let filed = c.args.file.now in
+    let told = g.F.Files.told filed.file.file in
+    let k = c.blocks_up_to-behind.result - 1 in
+    let fault = c.in_err-frame.field-0.0 in
+    let P = IsUnfitFor kind c.args.number filed.file.id in
+    let index : c.deref.result.now ≡ filed.index = c.deref.ensures.value ∙ ap (λ (f : Filed g.row.F-Sealed.Denot). f.index) c.file.view_is in
+    let within : k < length filed.index = omega (arith, c.blocks_up_to-behind.ensures.bound, ap length index, c.if-behind-eq0.false) in
+    let there = entry_there filed.index k within in
+    err_is c.from_residual.result fault (λ fault. IfSome told (λ bytes. filed.file.len ≡ length bytes → IsOutside fault ⊎ IsBlockRefused filed.file.id bytes filed.index P fault)) (grind (arith, common_steps))
+    (frame_refused told filed.file.id filed.file.len filed.index k there.0 P fault within there.1 (c.in_err-frame.ensures.told there.0 there.1))
+
+pub returns-clause-causes : goal.returns-clause-causes
+returns-clause-causes g c =
+    let kind = g.R.Record.kind in
+    let filed = c.args.file.now in
+    let told = g.F.Files.told filed.file.file in
+    let k = c.blocks_up_to-behind.result - 1 in
+    let entry = c.index.result.now in
+    let body = c.body.result.now in
+    let P = IsUnfitFor kind c.args.number filed.file.id in
+    let index : c.deref.result.now ≡ filed.index = c.deref.ensures.value ∙ ap (λ (f : Filed g.row.F-Sealed.Denot). f.index) c.file.view_is in
+    let within : k < length filed.index = omega (arith, c.blocks_up_to-behind.ensures.bound, ap length index, c.if-behind-eq0.false) in
+    let is : slice_index_or filed.index k entry ≡ entry = grind (arith, common_steps) in
+    let id : c.file.inside.file.id ≡ filed.file.id = ap (λ (f : Filed g.row.F-Sealed.Denot). f.file.id) c.file.view_is in
+    err_then c.find_in_block.result (λ fault. (fault ≡ NoMemory) ⊎ IsUnfitFor kind c.args.number c.file.inside.file.id entry.at body fault)
+    (λ fault. IfSome told (λ bytes. filed.file.len ≡ length bytes → IsOutside fault ⊎ IsBlockRefused filed.file.id bytes filed.index P fault))
+    (λ fault result unfit. body_refused told filed.file.id filed.file.len filed.index k entry c.in_ok-frame.frame body P fault within is c.body.ensures
+    (subst (λ i. (fault ≡ NoMemory) ⊎ IsUnfitFor kind c.args.number i entry.at body fault) id unfit) (c.in_ok-frame.ensures.told entry is))
+    c.find_in_block.ensures.refusals

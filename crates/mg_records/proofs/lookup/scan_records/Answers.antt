@@ -1,14 +1,17 @@
-use Rattle.std.proofs.Common.{◌≡◌, ◌-◌, ◌<◌, ◌≤◌, ◌∙◌, ◌++◌, [], length, drop, sym, ap, subst, inl, arith, slice_index_or, ◌⊎◌}
+use Rattle.std.proofs.Common.{◌≡◌, ◌-◌, ◌<◌, ◌≤◌, ◌∙◌, ◌++◌, [], length, drop, sym, ap, subst, inl, inr, IfSome, arith, slice_index_or, ◌⊎◌}
 use Rattle.std.proofs.lemmas.Grind.{common_steps}
 use Rattle.std.specs.Prelude.{filter, nat_lt}
 use Rattle.mg_model.specs.declared.faults.Fault.TheVariants.{NoMemory}
 use Rattle.mg_sealed.specs.Filling.{items_of}
-use Rattle.mg_records.specs.Reading.{IsUnfit}
+use Rattle.mg_sealed.specs.Answers.{IsOutside}
+use Rattle.mg_sealed.proofs.AnswerLaws.{err_is}
+use Rattle.mg_records.specs.Reading.{IsBlockFault, IsBlockRefused, IsBlockUnfit}
 use Rattle.mg_records.specs.File.{index_from, last_number, AreBlocks}
 use Rattle.mg_records.specs.Writing.{Filed}
 use Rattle.mg_records.specs.declared.foot.Foot.{Foot}
 use Rattle.mg_records.proofs.FileLaws.{length-index_from}
-use Rattle.mg_records.proofs.LookupLaws.{none_over_last, point_of, no_entry, fits-parts, outside_answer, fault_answer, block_fault, scan_begins, scan_step, scan_ends}
+use Rattle.mg_records.proofs.LookupLaws.{none_over_last, point_of, no_entry, fits-parts, outside_answer, entry_there, block_fault, body_refused, frame_refused, scan_begins, scan_step, scan_ends}
+use Rattle.mg_records.proofs.ScanLaws.{block_not_unfit, scanned_right}
 use Rattle.mg_records.proofs.lookup.scan_records.Goals as goal
 
 pub loop-number-init : goal.loop-number-init
@@ -39,11 +42,17 @@ returns-in_err-scan_block-clause-scanned g c = λ some records holds.
     let kind = g.R.Record.kind in
     let b = c.in_ok-frame.ensures.read some records holds in
     let fit = fits-parts kind b.before b.block b.later (subst (λ bs. AreBlocks kind bs) b.all holds.are).fit in
-    let memory = c.in_err-scan_block.ensures.scanned b.block fit (c.body.ensures ∙ b.spelling) in
-    outside_answer c.from_residual-in_err-scan_block.result c.in_err-scan_block.field-0.0 _ (grind (arith, common_steps)) (inl memory)
+    let fault = c.in_err-scan_block.field-0.0 in
+    let body = c.body.result.now in
+    outside_answer c.from_residual-in_err-scan_block.result fault _ (grind (arith, common_steps))
+    (elim c.in_err-scan_block.ensures.refusals [
+      | inl memory ↦ inl memory
+      | inr unfit ↦ absurd (block_not_unfit kind g.met.R.Record.lawful c.file.inside.file.id c.index.result.now.at body b.block fault fit (c.body.ensures ∙ b.spelling) unfit)
+    ])
 
 pub returns-in_err-scan_block-clause-refusals : goal.returns-in_err-scan_block-clause-refusals
 returns-in_err-scan_block-clause-refusals g c =
+    let kind = g.R.Record.kind in
     let filed = c.args.file.now in
     let k = c.loop-number.number in
     let entry = c.index.result.now in
@@ -51,8 +60,38 @@ returns-in_err-scan_block-clause-refusals g c =
     let is : slice_index_or filed.index k entry ≡ entry = grind (arith, common_steps) in
     let id : c.file.inside.file.id ≡ filed.file.id = ap (λ (f : Filed g.row.F-Sealed.Denot). f.file.id) c.file.view_is in
     let fault = c.in_err-scan_block.field-0.0 in
-    fault_answer c.from_residual-in_err-scan_block.result fault _ (grind (arith, common_steps))
-    (block_fault filed.file.id filed.index k entry within is fault (subst (λ i. IsUnfit i entry.at fault ⊎ (fault ≡ NoMemory)) id c.in_err-scan_block.ensures.refusals))
+    let body = c.body.result.now in
+    err_is c.from_residual-in_err-scan_block.result fault (λ fault. IsOutside fault ⊎ IsBlockFault filed.file.id filed.index fault) (grind (arith, common_steps))
+    (block_fault kind filed.file.id filed.index k entry body fault within is (subst (λ i. (fault ≡ NoMemory) ⊎ IsBlockUnfit kind i entry.at body fault) id c.in_err-scan_block.ensures.refusals))
+
+pub returns-in_err-frame-clause-causes : goal.returns-in_err-frame-clause-causes
+returns-in_err-frame-clause-causes g c =
+    let filed = c.args.file.now in
+    let told = g.F.Files.told filed.file.file in
+    let k = c.loop-number.number in
+    let P = IsBlockUnfit g.R.Record.kind filed.file.id in
+    let within : k < length filed.index = grind (arith, common_steps) in
+    let there = entry_there filed.index k within in
+    let fault = c.in_err-frame.field-0.0 in
+    err_is c.from_residual.result fault (λ fault. IfSome told (λ bytes. filed.file.len ≡ length bytes → IsOutside fault ⊎ IsBlockRefused filed.file.id bytes filed.index P fault)) (grind (arith, common_steps))
+    (frame_refused told filed.file.id filed.file.len filed.index k there.0 P fault within there.1 (c.in_err-frame.ensures.told there.0 there.1))
+
+pub returns-in_err-scan_block-clause-causes : goal.returns-in_err-scan_block-clause-causes
+returns-in_err-scan_block-clause-causes g c =
+    let kind = g.R.Record.kind in
+    let filed = c.args.file.now in
+    let told = g.F.Files.told filed.file.file in
+    let k = c.loop-number.number in
+    let entry = c.index.result.now in
+    let P = IsBlockUnfit kind filed.file.id in
+    let within : k < length filed.index = grind (arith, common_steps) in
+    let is : slice_index_or filed.index k entry ≡ entry = grind (arith, common_steps) in
+    let id : c.file.inside.file.id ≡ filed.file.id = ap (λ (f : Filed g.row.F-Sealed.Denot). f.file.id) c.file.view_is in
+    let fault = c.in_err-scan_block.field-0.0 in
+    let body = c.body.result.now in
+    err_is c.from_residual-in_err-scan_block.result fault (λ fault. IfSome told (λ bytes. filed.file.len ≡ length bytes → IsOutside fault ⊎ IsBlockRefused filed.file.id bytes filed.index P fault)) (grind (arith, common_steps))
+    (body_refused told filed.file.id filed.file.len filed.index k entry c.in_ok-frame.frame body P fault within is c.body.ensures
+    (subst (λ i. (fault ≡ NoMemory) ⊎ IsBlockUnfit kind i entry.at body fault) id c.in_err-scan_block.ensures.refusals) (c.in_ok-frame.ensures.told entry is))
 
 pub loop-number-preserved : goal.loop-number-preserved
 loop-number-preserved g c = (
@@ -63,7 +102,7 @@ loop-number-preserved g c = (
       let k = c.loop-number.number in
       let b = c.in_ok-frame.ensures.read some all holds in
       let fit = fits-parts kind b.before b.block b.later (subst (λ bs. AreBlocks kind bs) b.all holds.are).fit in
-      let more = c.in_ok-scan_block.ensures.scanned b.block fit (c.body.ensures ∙ b.spelling) in
+      let more = scanned_right kind g.met.R.Record.lawful after c.body.result.now b.block c.loop-number.records.items c.scan_block.new.records.items fit (c.body.ensures ∙ b.spelling) c.in_ok-scan_block.ensures.scanned in
       scan_step kind holds.blocks after k c.in_ok-frame.frame c.loop-number.records.items c.scan_block.new.records.items b more
       ∙ c.loop-number.invariant.1 some all holds,
 )
