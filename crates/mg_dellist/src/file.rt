@@ -26,7 +26,8 @@ impl<S> Model for DelList<S> {
 impl<S> DelList<S> {
     /// How many entries it has.
     pub fn count(&self) -> u64
-        ensures { (told : S → Option (List ℕ)) (entries : List Dead) → Holds dead_kind told self.now entries → result ≡ length entries }
+        ensures foot { result ≡ self.now.foot.records }
+        ensures entries { (told : S → Option (List ℕ)) (entries : List Dead) → Holds dead_kind told self.now entries → result ≡ length entries }
     {
         self.records.foot().records
     }

@@ -6,7 +6,7 @@ ghost use Rattle.mg_dellist.specs.Entry.{dead_kind};
 ghost use Rattle.mg_dellist.specs.Listing.{with_front};
 ghost use Rattle.mg_dellist.specs.declared.dead.Dead.{Dead};
 ghost use Rattle.mg_records.specs.File.{IsFile};
-ghost use Rattle.mg_records.specs.Reading.{IsBlockFault};
+ghost use Rattle.mg_records.specs.Reading.{IsBlockFault, IsBlockRefused, IsBlockUnfit, IsRead};
 ghost use Rattle.mg_records.specs.Refusals.{IsRefused};
 ghost use Rattle.mg_records.specs.Writing.{Holds};
 ghost use Rattle.mg_sealed.specs.Answers.{IsOutside};
@@ -28,8 +28,11 @@ pub fn load_del_list<F: Files>(
 ) -> Result<DelList<F::Sealed>, Fault>
     requires { len < 2 ^ 62 }
     ensures loaded { IfSome (F.told file) (λ bytes. (entries : List Dead) → IsFile dead_kind bytes entries → length bytes ≡ len →
-        MatchResult result (λ file. Holds dead_kind F.told file entries) (λ fault. IsOutside fault)) }
-    ensures refusals { IfSome (F.told file) (λ bytes. IfErr result (λ fault. IsOutside fault ⊎ IsRefused id len bytes fault)) }
+        MatchResult result (λ list. Holds dead_kind F.told list entries) (λ fault. IsOutside fault)) }
+    ensures file { IfOk result (λ list. list.file ≡ record { id = id; file = file; len = len }) }
+    ensures len { IfOk result (λ _. IfSome (F.told file) (λ bytes. length bytes ≡ len)) }
+    ensures read { IfOk result (λ list. IfSome (F.told file) (λ bytes. IsRead id bytes list)) }
+    ensures refusals { IfErr result (λ fault. IfSome (F.told file) (λ bytes. IsOutside fault ⊎ IsRefused id len bytes fault)) }
     ensures cause { HasCause Fault.ReadFault (F.faults port.old) (F.faults port.new) result }
 {
     let records = load_records::<F, Dead>(alloc, port, id, file, len)?;
@@ -45,6 +48,8 @@ pub fn scan_dead<F: Files>(
 ) -> Result<Vec<Dead>, Fault>
     ensures listed { IsSome (F.told list.now.file.file) → (entries : List Dead) → Holds dead_kind F.told list.now entries →
         MatchResult result (λ found. found.items ≡ entries) (λ fault. IsOutside fault) }
+    ensures causes { IfErr result (λ fault. IfSome (F.told list.now.file.file) (λ bytes. list.now.file.len ≡ length bytes →
+        IsOutside fault ⊎ IsBlockRefused list.now.file.id bytes list.now.index (IsBlockUnfit dead_kind list.now.file.id) fault)) }
     ensures refusals { IfErr result (λ fault. IsOutside fault ⊎ IsBlockFault list.now.file.id list.now.index fault) }
     ensures cause { HasCause Fault.ReadFault (F.faults port.old) (F.faults port.new) result }
 {

@@ -19,7 +19,7 @@ use Rattle.mg_sealed.proofs.AnswerLaws.{answered, refused, some_any, some_then}
 use Rattle.mg_sealed.proofs.WrittenLaws.{written_frame_is_read}
 use Rattle.mg_records.specs.File.{block_of, first_number, last_number, last_number_after, frame_length, index_from, end_of, RiseAfter, AreRising, AreBlocks, foot_of, bodies_of, index_bytes, foot_bytes, record_of}
 use Rattle.mg_records.specs.Record.{Kind, IsLawful}
-use Rattle.mg_records.specs.Reading.{IsIndexFrom, IsBlock, IsBlockFault, IsBlockRefused, IsBlockUnfit, IsRecordUnfit}
+use Rattle.mg_records.specs.Reading.{IsIndexFrom, IsBlock, IsBlockFault, IsBlockRefused, IsBlockUnfit, IsRecordUnfit, IsUnfitFor}
 use Rattle.mg_records.specs.Writing.{Filed, Holds}
 use Rattle.mg_records.specs.declared.index.Entry.{Entry}
 use Rattle.mg_records.proofs.BlockLaws.{each-left, each-right}
@@ -371,6 +371,25 @@ body_refused told id len index k entry frame body P fault within is spelled (inr
       entry_is = is;
       why = inr (frame, h same, subst (λ (b : List ℕ). P entry.at b fault) spelled unfit);
     })) read
+
+-- what a search for one number is refused by is refused to all
+any_number : {T : Type 0} (kind : Kind T) (number : ℕ) (id : FileId) (bytes : List ℕ) (index : List Entry) (fault : Fault) → IsBlockRefused id bytes index (IsUnfitFor kind number id) fault
+    → IsBlockRefused id bytes index (IsBlockUnfit kind id) fault
+any_number kind number id bytes index fault is = record {
+  number = is.number;
+  entry = is.entry;
+  within = is.within;
+  entry_is = is.entry_is;
+  why = elim is.why [ | inl damaged ↦ inl damaged | inr unfit ↦ inr (unfit.0, unfit.1, unfit.2.0) ];
+}
+
+pub refused_for_all : {T : Type 0} (kind : Kind T) (told : Option (List ℕ)) (number : ℕ) (id : FileId) (len : ℕ) (index : List Entry) (fault : Fault)
+    → IfSome told (λ bytes. len ≡ length bytes → IsOutside fault ⊎ IsBlockRefused id bytes index (IsUnfitFor kind number id) fault)
+    → IfSome told (λ bytes. len ≡ length bytes → IsOutside fault ⊎ IsBlockRefused id bytes index (IsBlockUnfit kind id) fault)
+refused_for_all kind told number id len index fault read =
+    some_then told (λ bytes. len ≡ length bytes → IsOutside fault ⊎ IsBlockRefused id bytes index (IsUnfitFor kind number id) fault)
+    (λ bytes. len ≡ length bytes → IsOutside fault ⊎ IsBlockRefused id bytes index (IsBlockUnfit kind id) fault)
+    (λ bytes h same. elim (h same) [ | inl outside ↦ inl outside | inr unfit ↦ inr (any_number kind number id bytes index fault unfit) ]) read
 
 pub point_of : {T : Type 0} (kind : Kind T) → IsLawful kind → (blocks : List (List T)) → AreBlocks kind blocks → (index : List Entry) (number behind : ℕ) → index ≡ index_from kind 0 blocks
     → (IsNonDecreasingBy (λ (e : Entry). e.first) index → IsPartitionPoint (λ (e : Entry). e.first ≤ number) (λ (e : Entry). number < e.first) index behind)

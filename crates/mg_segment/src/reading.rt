@@ -1,11 +1,11 @@
 //! A segment is opened and read.
 
-ghost use Rattle.std.specs.Prelude.{◌≡◌, ◌<◌, ◌^◌, ◌⊎◌, List, length, filter, nat_lt, IfSome, IfErr, IsSome, MatchResult, Ok, None};
+ghost use Rattle.std.specs.Prelude.{◌≡◌, ◌<◌, ◌≤◌, ◌^◌, ◌⊎◌, List, length, filter, nat_lt, IfSome, IfErr, IfOk, IsSome, MatchResult, Ok, None};
 ghost use Rattle.mg_faults.specs.Causes.{HasCause};
 ghost use Rattle.mg_model.specs.declared.documents.Item.{Item};
 ghost use Rattle.mg_records.specs.ItemRecord.{item_kind};
 ghost use Rattle.mg_records.specs.File.{IsFile, record_of};
-ghost use Rattle.mg_records.specs.Reading.{IsBlockFault};
+ghost use Rattle.mg_records.specs.Reading.{IsBlockFault, IsBlockRefused, IsBlockUnfit, IsRead, IsUnfitFor};
 ghost use Rattle.mg_records.specs.Refusals.{IsRefused};
 ghost use Rattle.mg_records.specs.Writing.{Holds};
 ghost use Rattle.mg_sealed.specs.Answers.{IsOutside};
@@ -26,8 +26,11 @@ pub fn load_segment<F: Files>(
 ) -> Result<Segment<F::Sealed>, Fault>
     requires { len < 2 ^ 62 }
     ensures loaded { IfSome (F.told file) (λ bytes. (items : List Item) → IsFile item_kind bytes items → length bytes ≡ len →
-        MatchResult result (λ file. Holds item_kind F.told file items) (λ fault. IsOutside fault)) }
-    ensures refusals { IfSome (F.told file) (λ bytes. IfErr result (λ fault. IsOutside fault ⊎ IsRefused id len bytes fault)) }
+        MatchResult result (λ segment. Holds item_kind F.told segment items) (λ fault. IsOutside fault)) }
+    ensures file { IfOk result (λ segment. segment.file ≡ record { id = id; file = file; len = len }) }
+    ensures len { IfOk result (λ _. IfSome (F.told file) (λ bytes. length bytes ≡ len)) }
+    ensures read { IfOk result (λ segment. IfSome (F.told file) (λ bytes. IsRead id bytes segment)) }
+    ensures refusals { IfErr result (λ fault. IfSome (F.told file) (λ bytes. IsOutside fault ⊎ IsRefused id len bytes fault)) }
     ensures cause { HasCause Fault.ReadFault (F.faults port.old) (F.faults port.new) result }
 {
     let records = load_records::<F, Item>(alloc, port, id, file, len)?;
@@ -45,6 +48,8 @@ pub fn get_item<F: Files>(
     ensures found { IsSome (F.told segment.now.file.file) → (items : List Item) → Holds item_kind F.told segment.now items →
         MatchResult result (λ found. found ≡ record_of item_kind seq items) (λ fault. IsOutside fault) }
     ensures unread { (seq < segment.now.foot.first) ⊎ (segment.now.foot.last < seq) → (port.new ≡ port.old) × (result ≡ Ok None) }
+    ensures causes { IfErr result (λ fault. IfSome (F.told segment.now.file.file) (λ bytes. segment.now.file.len ≡ length bytes →
+        IsOutside fault ⊎ IsBlockRefused segment.now.file.id bytes segment.now.index (IsUnfitFor item_kind seq segment.now.file.id) fault)) }
     ensures refusals { IfErr result (λ fault. IsOutside fault ⊎ IsBlockFault segment.now.file.id segment.now.index fault) }
     ensures cause { HasCause Fault.ReadFault (F.faults port.old) (F.faults port.new) result }
 {
@@ -60,6 +65,9 @@ pub fn scan_items<F: Files>(
 ) -> Result<Vec<Item>, Fault>
     ensures scanned { IsSome (F.told segment.now.file.file) → (items : List Item) → Holds item_kind F.told segment.now items →
         MatchResult result (λ found. found.items ≡ filter (λ item. nat_lt after item.seq) items) (λ fault. IsOutside fault) }
+    ensures unread { segment.now.foot.last ≤ after → port.new ≡ port.old }
+    ensures causes { IfErr result (λ fault. IfSome (F.told segment.now.file.file) (λ bytes. segment.now.file.len ≡ length bytes →
+        IsOutside fault ⊎ IsBlockRefused segment.now.file.id bytes segment.now.index (IsBlockUnfit item_kind segment.now.file.id) fault)) }
     ensures refusals { IfErr result (λ fault. IsOutside fault ⊎ IsBlockFault segment.now.file.id segment.now.index fault) }
     ensures cause { HasCause Fault.ReadFault (F.faults port.old) (F.faults port.new) result }
 {

@@ -28,28 +28,32 @@ impl<S> Model for Segment<S> {
 impl<S> Segment<S> {
     /// How many records it has.
     pub fn count(&self) -> u64
-        ensures { (told : S → Option (List ℕ)) (items : List Item) → Holds item_kind told self.now items → result ≡ length items }
+        ensures foot { result ≡ self.now.foot.records }
+        ensures items { (told : S → Option (List ℕ)) (items : List Item) → Holds item_kind told self.now items → result ≡ length items }
     {
         self.records.foot().records
     }
 
     /// The sum of their sizes: the bytes of their keys and documents.
     pub fn bytes(&self) -> u64
-        ensures { (told : S → Option (List ℕ)) (items : List Item) → Holds item_kind told self.now items → result ≡ sum_by size_of items }
+        ensures foot { result ≡ self.now.foot.sum }
+        ensures items { (told : S → Option (List ℕ)) (items : List Item) → Holds item_kind told self.now items → result ≡ sum_by size_of items }
     {
         self.records.foot().sum
     }
 
     /// The number of the first record.
     pub fn first(&self) -> u64
-        ensures { (told : S → Option (List ℕ)) (items : List Item) → Holds item_kind told self.now items → result ≡ first_number item_kind items }
+        ensures foot { result ≡ self.now.foot.first }
+        ensures items { (told : S → Option (List ℕ)) (items : List Item) → Holds item_kind told self.now items → result ≡ first_number item_kind items }
     {
         self.records.foot().first
     }
 
     /// The number of the last record.
     pub fn last(&self) -> u64
-        ensures { (told : S → Option (List ℕ)) (items : List Item) → Holds item_kind told self.now items → result ≡ last_number item_kind items }
+        ensures foot { result ≡ self.now.foot.last }
+        ensures items { (told : S → Option (List ℕ)) (items : List Item) → Holds item_kind told self.now items → result ≡ last_number item_kind items }
     {
         self.records.foot().last
     }
