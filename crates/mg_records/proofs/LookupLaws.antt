@@ -15,11 +15,11 @@ use Rattle.mg_sealed.specs.Answers.{Answers, IsOutside}
 use Rattle.mg_sealed.specs.Filling.{Fits, AreFilled, items_of}
 use Rattle.mg_sealed.specs.Reading.{frame_body}
 use Rattle.mg_sealed.specs.Blocks.{block_body, judged_block, IsUnfitAt}
-use Rattle.mg_sealed.proofs.AnswerLaws.{answered, refused, some_any, some_then}
+use Rattle.mg_sealed.proofs.AnswerLaws.{answered, refused, some_any, some_both, some_then}
 use Rattle.mg_sealed.proofs.WrittenLaws.{written_frame_is_read}
 use Rattle.mg_records.specs.File.{block_of, first_number, last_number, last_number_after, frame_length, index_from, end_of, RiseAfter, AreRising, AreBlocks, foot_of, bodies_of, index_bytes, foot_bytes, record_of}
 use Rattle.mg_records.specs.Record.{Kind, IsLawful}
-use Rattle.mg_records.specs.Reading.{IsIndexFrom, IsBlock, IsBlockFault, IsBlockRefused, IsBlockUnfit, IsRecordUnfit, IsUnfitFor}
+use Rattle.mg_records.specs.Reading.{AreRecordsOf, BeginUpTo, HasBody, IsIndexFrom, IsListed, IsScanned, IsBlock, IsBlockFault, IsBlockRefused, IsBlockUnfit, IsFoundIn, IsGot, IsRead, IsRecordUnfit, IsUnfitFor}
 use Rattle.mg_records.specs.Writing.{Filed, Holds}
 use Rattle.mg_records.specs.declared.index.Entry.{Entry}
 use Rattle.mg_records.proofs.BlockLaws.{each-left, each-right}
@@ -152,6 +152,14 @@ first_numbers_rise least at (e ∷ entries) end is zero (suc j) d order within =
 first_numbers_rise least at (e ∷ entries) end is (suc i) zero d order within = absurd (omega (arith, order))
 first_numbers_rise least at (e ∷ entries) end is (suc i) (suc j) d order within =
     first_numbers_rise (e.first + 1) (at + e.len) entries end is.5 i j d (omega (arith, order)) (omega (arith, within))
+
+-- where what is kept is what the bytes say, the blocks that begin at most at a number are counted
+pub begin_up_to : {S : Type 0} (id : FileId) (bytes : List ℕ) (filed : Filed S) (index : List Entry) (number behind count : ℕ) → IsRead id bytes filed → index ≡ filed.index → behind ≡ count
+    → (IsNonDecreasingBy (λ (e : Entry). e.first) index → IsPartitionPoint (λ (e : Entry). e.first ≤ number) (λ (e : Entry). number < e.first) index behind) → BeginUpTo filed.index number count
+begin_up_to id bytes filed index number behind count read same many point =
+    subst (λ (n : ℕ). BeginUpTo filed.index number n) many
+    (subst (λ (es : List Entry). BeginUpTo es number behind) same
+    (point (subst (λ (es : List Entry). IsNonDecreasingBy (λ (e : Entry). e.first) es) (sym same) (first_numbers_rise 0 0 filed.index filed.foot.index read.index.right))))
 
 pub index_rises : {T : Type 0} (kind : Kind T) → IsLawful kind → (blocks : List (List T)) → AreBlocks kind blocks → IsNonDecreasingBy (λ (e : Entry). e.first) (index_from kind 0 blocks)
 index_rises kind lawful blocks are = first_numbers_rise 0 0 (index_from kind 0 blocks) (end_of kind blocks) (index_from_is_index kind lawful blocks are)
@@ -372,6 +380,15 @@ body_refused told id len index k entry frame body P fault within is spelled (inr
       why = inr (frame, h same, subst (λ (b : List ℕ). P entry.at b fault) spelled unfit);
     })) read
 
+-- what was found in a block that was read is what the bytes say
+pub got_from : {T S : Type 0} (kind : Kind T) (told : Option (List ℕ)) (id : FileId) (len : ℕ) (filed : Filed S) (number k : ℕ) (entry : Entry) (frame body : List ℕ) (found : Option T) → k < length filed.index
+    → slice_index_or filed.index k entry ≡ entry → body ≡ frame → IsFoundIn kind number body found → ((bytes : List ℕ) → IsRead id bytes filed → BeginUpTo filed.index number (k + 1))
+    → IfSome told (λ bytes. len ≡ length bytes → block_body id bytes entry.at entry.len k ≡ Ok frame)
+    → IfSome told (λ bytes. IsRead id bytes filed → len ≡ length bytes → IsGot kind id bytes filed.index number found)
+got_from kind told id len filed number k entry frame body found within is spelled here point read =
+    some_then told (λ bytes. len ≡ length bytes → block_body id bytes entry.at entry.len k ≡ Ok frame) (λ bytes. IsRead id bytes filed → len ≡ length bytes → IsGot kind id bytes filed.index number found)
+    (λ bytes h kept same. inr (k, frame, point bytes kept, (entry, within, is, h same), subst (λ (b : List ℕ). IsFoundIn kind number b found) spelled here)) read
+
 -- what a search for one number is refused by is refused to all
 any_number : {T : Type 0} (kind : Kind T) (number : ℕ) (id : FileId) (bytes : List ℕ) (index : List Entry) (fault : Fault) → IsBlockRefused id bytes index (IsUnfitFor kind number id) fault
     → IsBlockRefused id bytes index (IsBlockUnfit kind id) fault
@@ -400,6 +417,66 @@ point_of kind lawful blocks are index number behind is point =
 
 pub no_entry : Entry
 no_entry = record { first = 0; at = 0; len = 0 }
+
+-- ---- what was listed of the blocks so far, in what is told of the file
+
+-- the blocks from `start` up to this number were read, and those of their records that are above `after` are these
+pub record IsListedUpTo {T : Type 0} (kind : Kind T) (id : FileId) (bytes : List ℕ) (index : List Entry) (after start number : ℕ) (found : List T) : Type 0 where
+  pub count : ℕ
+  pub records : List T
+  pub up_to : start + count ≡ number
+  pub are : AreRecordsOf kind id bytes index start count records
+  pub found_are : found ≡ filter (λ it. nat_lt after (kind.seq it)) records
+
+pub listed_none : {T : Type 0} (kind : Kind T) (id : FileId) (bytes : List ℕ) (index : List Entry) (after start : ℕ) (found : List T) → found ≡ [] → IsListedUpTo kind id bytes index after start start found
+listed_none kind id bytes index after start found none = record { count = 0; records = []; up_to = omega arith; are = refl; found_are = none }
+
+listed_more : {T : Type 0} (kind : Kind T) (id : FileId) (bytes : List ℕ) (index : List Entry) (after start number : ℕ) (frame body : List ℕ) (old new : List T) → body ≡ frame → HasBody id bytes index number frame
+    → IsScanned kind after body old new → IsListedUpTo kind id bytes index after start number old → IsListedUpTo kind id bytes index after start (number + 1) new
+listed_more {T} kind id bytes index after start number frame body old new spelled has scanned before =
+    let above : T → Bool = λ it. nat_lt after (kind.seq it) in
+    record {
+      count = suc before.count;
+      records = before.records ++ scanned.0;
+      up_to = omega (arith, before.up_to);
+      are = (
+        before.records,
+        scanned.0,
+        frame,
+        before.are,
+        subst (λ (n : ℕ). HasBody id bytes index n frame) (sym before.up_to) has,
+        scanned.1,
+        sym spelled ∙ scanned.2,
+        refl,
+      );
+      found_are = scanned.3 ∙ ap (λ (rs : List T). rs ++ filter above scanned.0) before.found_are ∙ sym (filter-append above before.records scanned.0);
+    }
+
+-- one block more was read
+pub listed_on : {T : Type 0} (kind : Kind T) (told : Option (List ℕ)) (id : FileId) (len : ℕ) (index : List Entry) (after start number : ℕ) (entry : Entry) (frame body : List ℕ) (old new : List T)
+    → number < length index → slice_index_or index number entry ≡ entry → body ≡ frame → IsScanned kind after body old new
+    → IfSome told (λ bytes. len ≡ length bytes → block_body id bytes entry.at entry.len number ≡ Ok frame)
+    → IfSome told (λ bytes. len ≡ length bytes → IsListedUpTo kind id bytes index after start number old)
+    → IfSome told (λ bytes. len ≡ length bytes → IsListedUpTo kind id bytes index after start (number + 1) new)
+listed_on kind told id len index after start number entry frame body old new within is spelled scanned read before =
+    some_then told
+    (λ bytes. (len ≡ length bytes → block_body id bytes entry.at entry.len number ≡ Ok frame) × (len ≡ length bytes → IsListedUpTo kind id bytes index after start number old))
+    (λ bytes. len ≡ length bytes → IsListedUpTo kind id bytes index after start (number + 1) new)
+    (λ bytes h same. listed_more kind id bytes index after start number frame body old new spelled (entry, within, is, h.0 same) scanned (h.1 same))
+    (some_both told (λ bytes. len ≡ length bytes → block_body id bytes entry.at entry.len number ≡ Ok frame) (λ bytes. len ≡ length bytes → IsListedUpTo kind id bytes index after start number old) read before)
+
+starts_at : (index : List Entry) (after behind start : ℕ) → start ≡ behind - 1 → BeginUpTo index after behind → ((start ≡ 0) × BeginUpTo index after 0) ⊎ BeginUpTo index after (start + 1)
+starts_at index after zero start is point = inl (omega (arith, is), point)
+starts_at index after (suc k) start is point = inr (subst (λ (n : ℕ). BeginUpTo index after n) (omega (arith, is)) point)
+
+-- all blocks were read
+pub listed_all : {T S : Type 0} (kind : Kind T) (told : Option (List ℕ)) (id : FileId) (len : ℕ) (filed : Filed S) (after behind start number : ℕ) (found : List T) → start ≡ behind - 1
+    → number ≡ length filed.index → ((bytes : List ℕ) → IsRead id bytes filed → BeginUpTo filed.index after behind)
+    → IfSome told (λ bytes. len ≡ length bytes → IsListedUpTo kind id bytes filed.index after start number found)
+    → IfSome told (λ bytes. IsRead id bytes filed → len ≡ length bytes → IsListed kind id bytes filed.index after found)
+listed_all kind told id len filed after behind start number found is ends point read =
+    some_then told (λ bytes. len ≡ length bytes → IsListedUpTo kind id bytes filed.index after start number found) (λ bytes. IsRead id bytes filed → len ≡ length bytes → IsListed kind id bytes filed.index after found)
+    (λ bytes h kept same. let l = h same in (start, l.count, l.records, starts_at filed.index after behind start is (point bytes kept), l.up_to ∙ ends, l.are, l.found_are)) read
 
 -- ---- one block more
 

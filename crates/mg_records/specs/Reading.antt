@@ -1,6 +1,7 @@
 -- What is read of a file of records.
-use Rattle.std.specs.Prelude.{◌≡◌, ◌≢◌, ℕ, ◌+◌, ◌-◌, ◌<◌, ◌≤◌, ◌^◌, ◌⊎◌, List, [], ◌∷◌, ◌++◌, length, slice_index_or, filter, nat_lt, Option, Some, None, Ok, Err}
+use Rattle.std.specs.Prelude.{◌≡◌, ◌≢◌, ℕ, zero, suc, ◌+◌, ◌-◌, ◌<◌, ◌≤◌, ◌^◌, ◌⊎◌, List, [], ◌∷◌, ◌++◌, length, slice_index_or, filter, nat_lt, Option, Some, None, Ok, Err}
 use Rattle.std.specs.List.{AllByRecursion, Any}
+use Rattle.std.specs.List.Sorted.{IsPartitionPoint}
 use Rattle.mg_model.specs.declared.faults.Fault.{Fault}
 use Rattle.mg_model.specs.declared.faults.Fault.TheVariants.{Damaged, Malformed}
 use Rattle.mg_model.specs.declared.faults.FileId.{FileId}
@@ -149,6 +150,35 @@ abbrev pub IsScanned : {T : Type 0} → Kind T → ℕ → List ℕ → List T �
 IsScanned {T} kind after body old new =
     (records : List T) × AllByRecursion kind.fits records × (body ≡ block_of kind records)
     × (new ≡ old ++ filter (λ it. nat_lt after (kind.seq it)) records)
+
+-- so many blocks of the index begin at most at this number, and the others above it
+abbrev pub BeginUpTo : List Entry → ℕ → ℕ → Type 0
+BeginUpTo index number count = IsPartitionPoint (λ (entry : Entry). entry.first ≤ number) (λ (entry : Entry). number < entry.first) index count
+
+-- the block of this number, from 0 on, stands in the bytes where the index says, and has this body
+abbrev pub HasBody : FileId → List ℕ → List Entry → ℕ → List ℕ → Type 0
+HasBody id bytes index number body =
+    (entry : Entry) × (number < length index) × (slice_index_or index number entry ≡ entry) × (block_body id bytes entry.at entry.len number ≡ Ok body)
+
+-- what a search for a number answers: none where no block begins at most at it, and else what is found in the last one that does
+abbrev pub IsGot : {T : Type 0} → Kind T → FileId → List ℕ → List Entry → ℕ → Option T → Type 0
+IsGot kind id bytes index number found =
+    (BeginUpTo index number 0 × (found ≡ None))
+    ⊎ ((block : ℕ) × (body : List ℕ) × BeginUpTo index number (block + 1) × HasBody id bytes index block body × IsFoundIn kind number body found)
+
+-- the records of so many blocks of the index, from the block `start` on
+abbrev pub AreRecordsOf : {T : Type 0} → Kind T → FileId → List ℕ → List Entry → ℕ → ℕ → List T → Type 0
+AreRecordsOf kind id bytes index start zero records = records ≡ []
+AreRecordsOf {T} kind id bytes index start (suc count) records =
+    (before : List T) × (block : List T) × (body : List ℕ) × AreRecordsOf kind id bytes index start count before × HasBody id bytes index (start + count) body
+    × AllByRecursion kind.fits block × (body ≡ block_of kind block) × (records ≡ before ++ block)
+
+-- what a scan gives: of the records of the blocks from the last one on that begins at most at `after`, or from the first one on, those
+-- with numbers above `after`
+abbrev pub IsListed : {T : Type 0} → Kind T → FileId → List ℕ → List Entry → ℕ → List T → Type 0
+IsListed {T} kind id bytes index after found =
+    (start : ℕ) × (count : ℕ) × (records : List T) × (((start ≡ 0) × BeginUpTo index after 0) ⊎ BeginUpTo index after (start + 1)) × (start + count ≡ length index)
+    × AreRecordsOf kind id bytes index start count records × (found ≡ filter (λ it. nat_lt after (kind.seq it)) records)
 
 -- What is wrong with a block of this index: its frame, or its body. P says what is wrong with a body at its place.
 pub record IsBlockRefused (id : FileId) (bytes : List ℕ) (index : List Entry) (P : ℕ → List ℕ → Fault → Type 0) (fault : Fault) : Type 0 where

@@ -1,10 +1,10 @@
 //! Records of a file are found by their numbers.
 
-ghost use Rattle.std.specs.Prelude.{◌≡◌, ◌<◌, ◌≤◌, ◌⊎◌, List, length, slice_index_or, filter, nat_lt, IfErr, IfSome, IsSome, MatchResult, Ok, None};
+ghost use Rattle.std.specs.Prelude.{◌≡◌, ◌<◌, ◌≤◌, ◌⊎◌, List, length, slice_index_or, filter, nat_lt, IfErr, IfOk, IfSome, IsSome, MatchResult, Ok, None};
 ghost use Rattle.std.specs.List.Sorted.{IsNonDecreasingBy, IsPartitionPoint};
 ghost use Rattle.mg_faults.specs.Causes.{HasCause};
 ghost use Rattle.mg_records.specs.File.{record_of};
-ghost use Rattle.mg_records.specs.Reading.{IsBlock, IsBlockFault, IsBlockRefused, IsBlockUnfit, IsUnfitFor};
+ghost use Rattle.mg_records.specs.Reading.{IsBlock, IsBlockFault, IsBlockRefused, IsBlockUnfit, IsGot, IsListed, IsRead, IsUnfitFor};
 ghost use Rattle.mg_records.specs.Writing.{Holds};
 ghost use Rattle.mg_records.specs.declared.index.Entry.{Entry};
 ghost use Rattle.mg_sealed.specs.Answers.{Answers, IsOutside};
@@ -30,6 +30,9 @@ pub fn get_record<F: Files, R: Record>(
     ensures found { IsSome (F.told file.now.file.file) → (records : List R) → Holds R.kind F.told file.now records →
         MatchResult result (λ found. found ≡ record_of R.kind number records) (λ fault. IsOutside fault) }
     ensures unread { (number < file.now.foot.first) ⊎ (file.now.foot.last < number) → (port.new ≡ port.old) × (result ≡ Ok None) }
+    ensures read { file.now.foot.first ≤ number → number ≤ file.now.foot.last →
+        IfOk result (λ found. IfSome (F.told file.now.file.file) (λ bytes. IsRead file.now.file.id bytes file.now →
+        file.now.file.len ≡ length bytes → IsGot R.kind file.now.file.id bytes file.now.index number found)) }
     ensures causes { IfErr result (λ fault. IfSome (F.told file.now.file.file) (λ bytes. file.now.file.len ≡ length bytes →
         IsOutside fault ⊎ IsBlockRefused file.now.file.id bytes file.now.index (IsUnfitFor R.kind number file.now.file.id) fault)) }
     ensures refusals { IfErr result (λ fault. IsOutside fault ⊎ IsBlockFault file.now.file.id file.now.index fault) }
@@ -58,6 +61,9 @@ pub fn scan_records<F: Files, R: Record>(
     ensures scanned { IsSome (F.told file.now.file.file) → (records : List R) → Holds R.kind F.told file.now records →
         MatchResult result (λ found. found.items ≡ filter (λ it. nat_lt after (R.kind.seq it)) records) (λ fault. IsOutside fault) }
     ensures unread { file.now.foot.last ≤ after → port.new ≡ port.old }
+    ensures read { after < file.now.foot.last →
+        IfOk result (λ found. IfSome (F.told file.now.file.file) (λ bytes. IsRead file.now.file.id bytes file.now →
+        file.now.file.len ≡ length bytes → IsListed R.kind file.now.file.id bytes file.now.index after found.items)) }
     ensures causes { IfErr result (λ fault. IfSome (F.told file.now.file.file) (λ bytes. file.now.file.len ≡ length bytes →
         IsOutside fault ⊎ IsBlockRefused file.now.file.id bytes file.now.index (IsBlockUnfit R.kind file.now.file.id) fault)) }
     ensures refusals { IfErr result (λ fault. IsOutside fault ⊎ IsBlockFault file.now.file.id file.now.index fault) }

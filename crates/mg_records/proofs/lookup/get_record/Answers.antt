@@ -1,16 +1,16 @@
-use Rattle.std.proofs.Common.{◌≡◌, ◌+◌, ◌-◌, ◌<◌, ◌≤◌, ◌∙◌, ◌⊎◌, length, IfSome, sym, ap, subst, arith, slice_index_or}
+use Rattle.std.proofs.Common.{◌≡◌, ◌+◌, ◌-◌, ◌<◌, ◌≤◌, ◌∙◌, ◌⊎◌, length, List, ℕ, IfSome, None, inl, refl, sym, ap, subst, arith, slice_index_or}
 use Rattle.std.proofs.lemmas.Grind.{common_steps}
 use Rattle.std.specs.List.Sorted.{IsPartitionPoint}
 use Rattle.mg_sealed.specs.Filling.{items_of}
 use Rattle.mg_model.specs.declared.faults.Fault.TheVariants.{NoMemory}
 use Rattle.mg_sealed.specs.Answers.{IsOutside}
-use Rattle.mg_sealed.proofs.AnswerLaws.{err_is, err_then}
-use Rattle.mg_records.specs.Reading.{IsBlockFault, IsBlockRefused, IsBlockUnfit, IsFoundIn, IsUnfitFor}
+use Rattle.mg_sealed.proofs.AnswerLaws.{err_is, err_then, ok_then, some_any}
+use Rattle.mg_records.specs.Reading.{IsBlockFault, IsBlockRefused, IsBlockUnfit, IsFoundIn, IsGot, IsRead, IsUnfitFor}
 use Rattle.mg_records.specs.File.{block_of, first_number, last_number, index_from, record_of, AreBlocks}
 use Rattle.mg_records.specs.Writing.{Filed}
 use Rattle.mg_records.specs.declared.foot.Foot.{Foot}
 use Rattle.mg_records.specs.declared.index.Entry.{Entry}
-use Rattle.mg_records.proofs.LookupLaws.{none_below_first, none_above_last, none_begins, found_in, point_of, no_entry, fits-parts, outside_answer, right_answer, entry_there, first_of_both, block_fault, body_refused, frame_refused}
+use Rattle.mg_records.proofs.LookupLaws.{begin_up_to, got_from, none_below_first, none_above_last, none_begins, found_in, point_of, no_entry, fits-parts, outside_answer, right_answer, entry_there, first_of_both, block_fault, body_refused, frame_refused}
 use Rattle.mg_records.proofs.ScanLaws.{block_not_unfit, found_right}
 use Rattle.mg_records.proofs.lookup.get_record.Goals as goal
 use Rattle.mg_records.proofs.lookup.get_record.Goals.{then-number-first-via-then-number-first, then-number-first-via-else-number-first+then-number-last}
@@ -113,3 +113,31 @@ returns-clause-causes g c =
     (λ fault result unfit. body_refused told filed.file.id filed.file.len filed.index k entry c.in_ok-frame.frame body P fault within is c.body.ensures
     (subst (λ i. (fault ≡ NoMemory) ⊎ IsUnfitFor kind c.args.number i entry.at body fault) id unfit) (c.in_ok-frame.ensures.told entry is))
     c.find_in_block.ensures.refusals
+
+pub returns-then-behind-eq0-clause-read : goal.returns-then-behind-eq0-clause-read
+returns-then-behind-eq0-clause-read g c = λ low high.
+    let filed = c.args.file.now in
+    let behind = c.blocks_up_to-behind.result in
+    let index : c.deref.result.now ≡ filed.index = c.deref.ensures.value ∙ ap (λ (f : Filed g.row.F-Sealed.Denot). f.index) c.file.view_is in
+    let none : behind ≡ 0 = grind (arith, common_steps) in
+    some_any (g.F.Files.told filed.file.file) (λ bytes. IsRead filed.file.id bytes filed → filed.file.len ≡ length bytes → IsGot g.R.Record.kind filed.file.id bytes filed.index c.args.number None)
+    (λ bytes kept long. inl (begin_up_to filed.file.id bytes filed c.deref.result.now c.args.number behind 0 kept index none c.blocks_up_to-behind.ensures.point, refl))
+
+pub returns-clause-read : goal.returns-clause-read
+returns-clause-read g c = λ low high.
+    let kind = g.R.Record.kind in
+    let number = c.args.number in
+    let filed = c.args.file.now in
+    let told = g.F.Files.told filed.file.file in
+    let behind = c.blocks_up_to-behind.result in
+    let k = behind - 1 in
+    let entry = c.index.result.now in
+    let body = c.body.result.now in
+    let index : c.deref.result.now ≡ filed.index = c.deref.ensures.value ∙ ap (λ (f : Filed g.row.F-Sealed.Denot). f.index) c.file.view_is in
+    let within : k < length filed.index = omega (arith, c.blocks_up_to-behind.ensures.bound, ap length index, c.if-behind-eq0.false) in
+    let is : slice_index_or filed.index k entry ≡ entry = grind (arith, common_steps) in
+    let next : behind ≡ k + 1 = omega (arith, c.if-behind-eq0.false) in
+    ok_then c.find_in_block.result (λ found. IsFoundIn kind number body found) (λ found. IfSome told (λ bytes. IsRead filed.file.id bytes filed → filed.file.len ≡ length bytes → IsGot kind filed.file.id bytes filed.index number found))
+    (λ found here. got_from kind told filed.file.id filed.file.len filed number k entry c.in_ok-frame.frame body found within is c.body.ensures here
+    (λ bytes kept. begin_up_to filed.file.id bytes filed c.deref.result.now number behind (k + 1) kept index next c.blocks_up_to-behind.ensures.point) (c.in_ok-frame.ensures.told entry is))
+    c.find_in_block.ensures.found

@@ -1,16 +1,16 @@
-use Rattle.std.proofs.Common.{◌≡◌, ◌-◌, ◌<◌, ◌≤◌, ◌∙◌, ◌++◌, [], length, drop, sym, ap, subst, inl, inr, IfSome, arith, slice_index_or, ◌⊎◌}
+use Rattle.std.proofs.Common.{◌≡◌, ◌-◌, ◌<◌, ◌≤◌, ◌∙◌, ◌++◌, [], length, drop, sym, ap, subst, inl, inr, refl, IfSome, arith, slice_index_or, ◌⊎◌}
 use Rattle.std.proofs.lemmas.Grind.{common_steps}
 use Rattle.std.specs.Prelude.{filter, nat_lt}
 use Rattle.mg_model.specs.declared.faults.Fault.TheVariants.{NoMemory}
 use Rattle.mg_sealed.specs.Filling.{items_of}
 use Rattle.mg_sealed.specs.Answers.{IsOutside}
-use Rattle.mg_sealed.proofs.AnswerLaws.{err_is}
+use Rattle.mg_sealed.proofs.AnswerLaws.{err_is, some_any}
 use Rattle.mg_records.specs.Reading.{IsBlockFault, IsBlockRefused, IsBlockUnfit}
 use Rattle.mg_records.specs.File.{index_from, last_number, AreBlocks}
 use Rattle.mg_records.specs.Writing.{Filed}
 use Rattle.mg_records.specs.declared.foot.Foot.{Foot}
 use Rattle.mg_records.proofs.FileLaws.{length-index_from}
-use Rattle.mg_records.proofs.LookupLaws.{none_over_last, point_of, no_entry, fits-parts, outside_answer, entry_there, block_fault, body_refused, frame_refused, scan_begins, scan_step, scan_ends}
+use Rattle.mg_records.proofs.LookupLaws.{IsListedUpTo, begin_up_to, listed_all, listed_none, listed_on, none_over_last, point_of, no_entry, fits-parts, outside_answer, entry_there, block_fault, body_refused, frame_refused, scan_begins, scan_step, scan_ends}
 use Rattle.mg_records.proofs.ScanLaws.{block_not_unfit, scanned_right}
 use Rattle.mg_records.proofs.lookup.scan_records.Goals as goal
 
@@ -31,6 +31,10 @@ loop-number-init g c = (
       ap (λ xs. xs ++ filter (λ it. nat_lt after (kind.seq it)) (items_of (drop start blocks))) none
       ∙ scan_begins kind blocks holds.are after start behind no_entry starts bound point
       ∙ ap (filter (λ it. nat_lt after (kind.seq it))) holds.all,
+  let filed = c.args.file.now in
+  let start = c.saturating_sub-start.result in
+  some_any (g.F.Files.told filed.file.file) (λ bytes. filed.file.len ≡ length bytes → IsListedUpTo g.R.Record.kind filed.file.id bytes filed.index c.args.after start start c.new-records.result.items)
+  (λ bytes long. listed_none g.R.Record.kind filed.file.id bytes filed.index c.args.after start c.new-records.result.items c.new-records.ensures.items),
 )
 
 pub returns-in_err-frame-clause-scanned : goal.returns-in_err-frame-clause-scanned
@@ -105,6 +109,13 @@ loop-number-preserved g c = (
       let more = scanned_right kind g.met.R.Record.lawful after c.body.result.now b.block c.loop-number.records.items c.scan_block.new.records.items fit (c.body.ensures ∙ b.spelling) c.in_ok-scan_block.ensures.scanned in
       scan_step kind holds.blocks after k c.in_ok-frame.frame c.loop-number.records.items c.scan_block.new.records.items b more
       ∙ c.loop-number.invariant.1 some all holds,
+  let filed = c.args.file.now in
+  let k = c.loop-number.number in
+  let entry = c.index.result.now in
+  let within : k < length filed.index = grind (arith, common_steps) in
+  let is : slice_index_or filed.index k entry ≡ entry = grind (arith, common_steps) in
+  listed_on g.R.Record.kind (g.F.Files.told filed.file.file) filed.file.id filed.file.len filed.index c.args.after c.saturating_sub-start.result k entry c.in_ok-frame.frame c.body.result.now
+  c.loop-number.records.items c.scan_block.new.records.items within is c.body.ensures c.in_ok-scan_block.ensures.scanned (c.in_ok-frame.ensures.told entry is) c.loop-number.invariant.2,
 )
 
 pub returns-clause-scanned : goal.returns-clause-scanned
@@ -124,3 +135,16 @@ returns-then-after-last-clause-scanned g c = λ some records holds.
     let none : c.new-records.result.items ≡ [] = c.new-records.ensures.items in
     let under : last_number kind items ≤ after = omega (arith, c.if-after-last.true, c.last.ensures, ap (λ (f : Foot). f.last) holds.foot) in
     none ∙ sym (ap (filter (λ it. nat_lt after (kind.seq it))) (sym holds.all) ∙ none_over_last kind after items holds.are.rise under)
+
+pub returns-clause-read : goal.returns-clause-read
+returns-clause-read g c = λ below.
+    let filed = c.args.file.now in
+    let after = c.args.after in
+    let k = c.loop-number.number in
+    let behind = c.blocks_up_to.result in
+    let start = c.saturating_sub-start.result in
+    let index : c.deref.result.now ≡ filed.index = c.deref.ensures.value ∙ ap (λ (f : Filed g.row.F-Sealed.Denot). f.index) c.file.view_is in
+    let starts : start ≡ behind - 1 = grind (arith, common_steps) in
+    let ends : k ≡ length filed.index = grind (arith, common_steps) in
+    listed_all g.R.Record.kind (g.F.Files.told filed.file.file) filed.file.id filed.file.len filed after behind start k c.loop-number.records.items starts ends
+    (λ bytes kept. begin_up_to filed.file.id bytes filed c.deref.result.now after behind behind kept index refl c.blocks_up_to.ensures.point) c.loop-number.invariant.2
