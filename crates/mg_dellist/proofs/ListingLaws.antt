@@ -1,14 +1,19 @@
 -- A list whose numbers strictly rise is the record of number 0, if any, and those above 0.
-use Rattle.std.proofs.Common.{◌≡◌, ◌<◌, List, [], ◌∷◌, Option, None, Result, Ok, Err, MatchResult, refl, ap, ◌∙◌, arith, inl, inr}
+use Rattle.std.proofs.Common.{◌≡◌, ℕ, ◌<◌, ◌≤◌, List, [], ◌∷◌, length, Option, Some, None, IfSome, Result, Ok, Err, MatchResult, refl, ap, ◌∙◌, arith, inl, inr}
 use Rattle.std.specs.Prelude.{filter, nat_lt, IfOk, IsOkUnless}
 use Rattle.std.proofs.lemmas.Bool.{cases_lt}
 use Rattle.mg_model.specs.declared.faults.Fault.{Fault}
 use Rattle.mg_model.specs.declared.faults.Fault.TheVariants.{NoMemory}
+use Rattle.mg_model.specs.declared.faults.FileId.{FileId}
 use Rattle.mg_sealed.specs.Answers.{IsOutside}
 use Rattle.mg_records.specs.File.{RiseAfter, AreRising, record_of}
 use Rattle.mg_records.specs.Record.{Kind}
 use Rattle.mg_records.proofs.ScanLaws.{record_of-here, record_of-later, filter-take, filter-pass}
-use Rattle.mg_dellist.specs.Listing.{with_front}
+use Rattle.mg_records.specs.Reading.{IsGot, IsListed, IsRead}
+use Rattle.mg_records.specs.Writing.{Filed}
+use Rattle.mg_dellist.specs.declared.dead.Dead.{Dead}
+use Rattle.mg_dellist.specs.Entry.{dead_kind}
+use Rattle.mg_dellist.specs.Listing.{with_front, IsListing}
 
 -- the records above 0
 abbrev pub above_zero : {T : Type 0} → Kind T → List T → List T
@@ -40,3 +45,20 @@ pub listed : {T V : Type 0} (kind : Kind T) (items : V → List T) (r : Result V
 listed kind items (Ok all) zero above list rise found scanned is unless =
     is ∙ ap (λ o. with_front o above) found ∙ ap (with_front (record_of kind 0 list)) scanned ∙ zero_and_above kind list rise
 listed kind items (Err fault) zero above list rise found scanned is unless = inl cc
+
+-- what is listed over any bytes
+pub listing_of : {S : Type 0} (told : Option (List ℕ)) (id : FileId) (len : ℕ) (filed : Filed S) (zero : Option Dead) (above found : List Dead) → found ≡ with_front zero above
+    → (0 < filed.foot.first → zero ≡ None) → (filed.foot.last ≤ 0 → above ≡ [])
+    → (filed.foot.first ≤ 0 → 0 ≤ filed.foot.last → IfSome told (λ bytes. IsRead id bytes filed → len ≡ length bytes → IsGot dead_kind id bytes filed.index 0 zero))
+    → (0 < filed.foot.last → IfSome told (λ bytes. IsRead id bytes filed → len ≡ length bytes → IsListed dead_kind id bytes filed.index 0 above))
+    → IfSome told (λ bytes. IsRead id bytes filed → len ≡ length bytes → IsListing id bytes filed found)
+listing_of None id len filed zero above found all none nothing got listed = tt
+listing_of (Some bytes) id len filed zero above found all none nothing got listed = λ kept long. record {
+  zero = zero;
+  above = above;
+  all = all;
+  none = none;
+  got = λ first. got (omega (arith, first)) (omega arith) kept long;
+  nothing = λ last. nothing (omega (arith, last));
+  listed = λ last. listed last kept long;
+}

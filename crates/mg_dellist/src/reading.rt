@@ -3,10 +3,10 @@
 ghost use Rattle.std.specs.Prelude.{◌≡◌, ◌<◌, ◌^◌, ◌⊎◌, List, length, IfSome, IfOk, IfErr, IsSome, IsOkUnless, MatchResult};
 ghost use Rattle.mg_faults.specs.Causes.{HasCause};
 ghost use Rattle.mg_dellist.specs.Entry.{dead_kind};
-ghost use Rattle.mg_dellist.specs.Listing.{with_front};
+ghost use Rattle.mg_dellist.specs.Listing.{with_front, IsListing};
 ghost use Rattle.mg_dellist.specs.declared.dead.Dead.{Dead};
 ghost use Rattle.mg_records.specs.File.{IsFile};
-ghost use Rattle.mg_records.specs.Reading.{IsBlockFault, IsBlockRefused, IsBlockUnfit, IsRead};
+ghost use Rattle.mg_records.specs.Reading.{IsBlockFault, IsRead, IsScanRefused, IsSoughtRefused};
 ghost use Rattle.mg_records.specs.Refusals.{IsRefused};
 ghost use Rattle.mg_records.specs.Writing.{Holds};
 ghost use Rattle.mg_sealed.specs.Answers.{IsOutside};
@@ -48,8 +48,11 @@ pub fn scan_dead<F: Files>(
 ) -> Result<Vec<Dead>, Fault>
     ensures listed { IsSome (F.told list.now.file.file) → (entries : List Dead) → Holds dead_kind F.told list.now entries →
         MatchResult result (λ found. found.items ≡ entries) (λ fault. IsOutside fault) }
+    ensures read { IfOk result (λ found. IfSome (F.told list.now.file.file) (λ bytes. IsRead list.now.file.id bytes list.now →
+        list.now.file.len ≡ length bytes → IsListing list.now.file.id bytes list.now found.items)) }
     ensures causes { IfErr result (λ fault. IfSome (F.told list.now.file.file) (λ bytes. list.now.file.len ≡ length bytes →
-        IsOutside fault ⊎ IsBlockRefused list.now.file.id bytes list.now.index (IsBlockUnfit dead_kind list.now.file.id) fault)) }
+        IsOutside fault ⊎ IsSoughtRefused dead_kind list.now.file.id bytes list.now 0 fault
+        ⊎ IsScanRefused dead_kind list.now.file.id bytes list.now 0 fault)) }
     ensures refusals { IfErr result (λ fault. IsOutside fault ⊎ IsBlockFault list.now.file.id list.now.index fault) }
     ensures cause { HasCause Fault.ReadFault (F.faults port.old) (F.faults port.new) result }
 {

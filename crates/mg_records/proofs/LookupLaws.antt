@@ -19,7 +19,7 @@ use Rattle.mg_sealed.proofs.AnswerLaws.{answered, refused, some_any, some_both, 
 use Rattle.mg_sealed.proofs.WrittenLaws.{written_frame_is_read}
 use Rattle.mg_records.specs.File.{block_of, first_number, last_number, last_number_after, frame_length, index_from, end_of, RiseAfter, AreRising, AreBlocks, foot_of, bodies_of, index_bytes, foot_bytes, record_of}
 use Rattle.mg_records.specs.Record.{Kind, IsLawful}
-use Rattle.mg_records.specs.Reading.{AreRecordsOf, BeginUpTo, HasBody, IsIndexFrom, IsListed, IsScanned, IsBlock, IsBlockFault, IsBlockRefused, IsBlockUnfit, IsFoundIn, IsGot, IsRead, IsRecordUnfit, IsUnfitFor}
+use Rattle.mg_records.specs.Reading.{AreRecordsOf, BeginUpTo, HasBody, IsIndexFrom, IsListed, IsScanned, IsBlock, IsBlockFault, IsBlockRefused, IsBlockUnfit, IsFoundIn, IsGot, IsRead, IsRecordUnfit, IsScanRefused, IsSoughtRefused, IsUnfitFor, StartsAt}
 use Rattle.mg_records.specs.Writing.{Filed, Holds}
 use Rattle.mg_records.specs.declared.index.Entry.{Entry}
 use Rattle.mg_records.proofs.BlockLaws.{each-left, each-right}
@@ -354,31 +354,37 @@ block_fault kind id index k entry body fault within is (inl memory) = inl (inl m
 block_fault kind id index k entry body fault within is (inr unfit) = inr (k, entry, within, is, record_at kind id entry.at unfit.rest fault unfit.unfit)
 
 -- a block whose frame is refused, in what is told of the file
-pub frame_refused : (told : Option (List ℕ)) (id : FileId) (len : ℕ) (index : List Entry) (k : ℕ) (entry : Entry) (P : ℕ → List ℕ → Fault → Type 0) (fault : Fault) → k < length index
-    → slice_index_or index k entry ≡ entry → IfSome told (λ bytes. len ≡ length bytes → Answers (block_body id bytes entry.at entry.len k) (Err fault))
-    → IfSome told (λ bytes. len ≡ length bytes → IsOutside fault ⊎ IsBlockRefused id bytes index P fault)
-frame_refused told id len index k entry P fault within is read =
-    some_then told (λ bytes. len ≡ length bytes → Answers (block_body id bytes entry.at entry.len k) (Err fault)) (λ bytes. len ≡ length bytes → IsOutside fault ⊎ IsBlockRefused id bytes index P fault)
-    (λ bytes h same. elim (h same) [
+pub frame_refused : (told : Option (List ℕ)) (id : FileId) (len : ℕ) (index : List Entry) (k : ℕ) (entry : Entry) (P : ℕ → List ℕ → Fault → Type 0) (Q : List ℕ → ℕ → Type 0) (fault : Fault)
+    → k < length index → slice_index_or index k entry ≡ entry → IfSome told (λ bytes. len ≡ length bytes → Q bytes k)
+    → IfSome told (λ bytes. len ≡ length bytes → Answers (block_body id bytes entry.at entry.len k) (Err fault))
+    → IfSome told (λ bytes. len ≡ length bytes → IsOutside fault ⊎ ((refused : IsBlockRefused id bytes index P fault) × Q bytes refused.number))
+frame_refused told id len index k entry P Q fault within is there read =
+    some_then told (λ bytes. (len ≡ length bytes → Q bytes k) × (len ≡ length bytes → Answers (block_body id bytes entry.at entry.len k) (Err fault)))
+    (λ bytes. len ≡ length bytes → IsOutside fault ⊎ ((refused : IsBlockRefused id bytes index P fault) × Q bytes refused.number))
+    (λ bytes h same. elim (h.1 same) [
       | inl outside ↦ inl outside
-      | inr damaged ↦ inr (record { number = k; entry = entry; within = within; entry_is = is; why = inl damaged })
-    ]) read
+      | inr damaged ↦ inr (record { number = k; entry = entry; within = within; entry_is = is; why = inl damaged }, h.0 same)
+    ]) (some_both told (λ bytes. len ≡ length bytes → Q bytes k) (λ bytes. len ≡ length bytes → Answers (block_body id bytes entry.at entry.len k) (Err fault)) there read)
 
 -- a block whose body is refused, in what is told of the file
-pub body_refused : (told : Option (List ℕ)) (id : FileId) (len : ℕ) (index : List Entry) (k : ℕ) (entry : Entry) (frame body : List ℕ) (P : ℕ → List ℕ → Fault → Type 0) (fault : Fault) → k < length index
-    → slice_index_or index k entry ≡ entry → body ≡ frame → (fault ≡ NoMemory) ⊎ P entry.at body fault
+pub body_refused : (told : Option (List ℕ)) (id : FileId) (len : ℕ) (index : List Entry) (k : ℕ) (entry : Entry) (frame body : List ℕ) (P : ℕ → List ℕ → Fault → Type 0) (Q : List ℕ → ℕ → Type 0)
+    (fault : Fault) → k < length index → slice_index_or index k entry ≡ entry → body ≡ frame → (fault ≡ NoMemory) ⊎ P entry.at body fault → IfSome told (λ bytes. len ≡ length bytes → Q bytes k)
     → IfSome told (λ bytes. len ≡ length bytes → block_body id bytes entry.at entry.len k ≡ Ok frame)
-    → IfSome told (λ bytes. len ≡ length bytes → IsOutside fault ⊎ IsBlockRefused id bytes index P fault)
-body_refused told id len index k entry frame body P fault within is spelled (inl memory) read = some_any told _ (λ bytes same. inl (inl memory))
-body_refused told id len index k entry frame body P fault within is spelled (inr unfit) read =
-    some_then told (λ bytes. len ≡ length bytes → block_body id bytes entry.at entry.len k ≡ Ok frame) (λ bytes. len ≡ length bytes → IsOutside fault ⊎ IsBlockRefused id bytes index P fault)
-    (λ bytes h same. inr (record {
-      number = k;
-      entry = entry;
-      within = within;
-      entry_is = is;
-      why = inr (frame, h same, subst (λ (b : List ℕ). P entry.at b fault) spelled unfit);
-    })) read
+    → IfSome told (λ bytes. len ≡ length bytes → IsOutside fault ⊎ ((refused : IsBlockRefused id bytes index P fault) × Q bytes refused.number))
+body_refused told id len index k entry frame body P Q fault within is spelled (inl memory) there read = some_any told _ (λ bytes same. inl (inl memory))
+body_refused told id len index k entry frame body P Q fault within is spelled (inr unfit) there read =
+    some_then told (λ bytes. (len ≡ length bytes → Q bytes k) × (len ≡ length bytes → block_body id bytes entry.at entry.len k ≡ Ok frame))
+    (λ bytes. len ≡ length bytes → IsOutside fault ⊎ ((refused : IsBlockRefused id bytes index P fault) × Q bytes refused.number))
+    (λ bytes h same. inr (
+      record {
+        number = k;
+        entry = entry;
+        within = within;
+        entry_is = is;
+        why = inr (frame, h.1 same, subst (λ (b : List ℕ). P entry.at b fault) spelled unfit);
+      },
+      h.0 same,
+    )) (some_both told (λ bytes. len ≡ length bytes → Q bytes k) (λ bytes. len ≡ length bytes → block_body id bytes entry.at entry.len k ≡ Ok frame) there read)
 
 -- what was found in a block that was read is what the bytes say
 pub got_from : {T S : Type 0} (kind : Kind T) (told : Option (List ℕ)) (id : FileId) (len : ℕ) (filed : Filed S) (number k : ℕ) (entry : Entry) (frame body : List ℕ) (found : Option T) → k < length filed.index
@@ -388,25 +394,6 @@ pub got_from : {T S : Type 0} (kind : Kind T) (told : Option (List ℕ)) (id : F
 got_from kind told id len filed number k entry frame body found within is spelled here point read =
     some_then told (λ bytes. len ≡ length bytes → block_body id bytes entry.at entry.len k ≡ Ok frame) (λ bytes. IsRead id bytes filed → len ≡ length bytes → IsGot kind id bytes filed.index number found)
     (λ bytes h kept same. inr (k, frame, point bytes kept, (entry, within, is, h same), subst (λ (b : List ℕ). IsFoundIn kind number b found) spelled here)) read
-
--- what a search for one number is refused by is refused to all
-any_number : {T : Type 0} (kind : Kind T) (number : ℕ) (id : FileId) (bytes : List ℕ) (index : List Entry) (fault : Fault) → IsBlockRefused id bytes index (IsUnfitFor kind number id) fault
-    → IsBlockRefused id bytes index (IsBlockUnfit kind id) fault
-any_number kind number id bytes index fault is = record {
-  number = is.number;
-  entry = is.entry;
-  within = is.within;
-  entry_is = is.entry_is;
-  why = elim is.why [ | inl damaged ↦ inl damaged | inr unfit ↦ inr (unfit.0, unfit.1, unfit.2.0) ];
-}
-
-pub refused_for_all : {T : Type 0} (kind : Kind T) (told : Option (List ℕ)) (number : ℕ) (id : FileId) (len : ℕ) (index : List Entry) (fault : Fault)
-    → IfSome told (λ bytes. len ≡ length bytes → IsOutside fault ⊎ IsBlockRefused id bytes index (IsUnfitFor kind number id) fault)
-    → IfSome told (λ bytes. len ≡ length bytes → IsOutside fault ⊎ IsBlockRefused id bytes index (IsBlockUnfit kind id) fault)
-refused_for_all kind told number id len index fault read =
-    some_then told (λ bytes. len ≡ length bytes → IsOutside fault ⊎ IsBlockRefused id bytes index (IsUnfitFor kind number id) fault)
-    (λ bytes. len ≡ length bytes → IsOutside fault ⊎ IsBlockRefused id bytes index (IsBlockUnfit kind id) fault)
-    (λ bytes h same. elim (h same) [ | inl outside ↦ inl outside | inr unfit ↦ inr (any_number kind number id bytes index fault unfit) ]) read
 
 pub point_of : {T : Type 0} (kind : Kind T) → IsLawful kind → (blocks : List (List T)) → AreBlocks kind blocks → (index : List Entry) (number behind : ℕ) → index ≡ index_from kind 0 blocks
     → (IsNonDecreasingBy (λ (e : Entry). e.first) index → IsPartitionPoint (λ (e : Entry). e.first ≤ number) (λ (e : Entry). number < e.first) index behind)
@@ -465,9 +452,24 @@ listed_on kind told id len index after start number entry frame body old new wit
     (λ bytes h same. listed_more kind id bytes index after start number frame body old new spelled (entry, within, is, h.0 same) scanned (h.1 same))
     (some_both told (λ bytes. len ≡ length bytes → block_body id bytes entry.at entry.len number ≡ Ok frame) (λ bytes. len ≡ length bytes → IsListedUpTo kind id bytes index after start number old) read before)
 
-starts_at : (index : List Entry) (after behind start : ℕ) → start ≡ behind - 1 → BeginUpTo index after behind → ((start ≡ 0) × BeginUpTo index after 0) ⊎ BeginUpTo index after (start + 1)
+starts_at : (index : List Entry) (after behind start : ℕ) → start ≡ behind - 1 → BeginUpTo index after behind → StartsAt index after start
 starts_at index after zero start is point = inl (omega (arith, is), point)
 starts_at index after (suc k) start is point = inr (subst (λ (n : ℕ). BeginUpTo index after n) (omega (arith, is)) point)
+
+-- the blocks before this one, from where a scan begins on, were read
+abbrev pub WasListed : {T S : Type 0} → Kind T → FileId → Filed S → ℕ → List ℕ → ℕ → Type 0
+WasListed {T} kind id filed after bytes number = IsRead id bytes filed → (start : ℕ) × (count : ℕ) × (records : List T) × StartsAt filed.index after start × (start + count ≡ number)
+    × AreRecordsOf kind id bytes filed.index start count records
+
+-- where a block is refused, those before it were read
+pub listed_before : {T S : Type 0} (kind : Kind T) (told : Option (List ℕ)) (id : FileId) (len : ℕ) (filed : Filed S) (after behind start number : ℕ) (found : List T) → start ≡ behind - 1
+    → ((bytes : List ℕ) → IsRead id bytes filed → BeginUpTo filed.index after behind)
+    → IfSome told (λ bytes. len ≡ length bytes → IsListedUpTo kind id bytes filed.index after start number found)
+    → IfSome told (λ bytes. len ≡ length bytes → WasListed kind id filed after bytes number)
+listed_before {T} kind told id len filed after behind start number found is point read =
+    some_then told (λ bytes. len ≡ length bytes → IsListedUpTo kind id bytes filed.index after start number found)
+    (λ bytes. len ≡ length bytes → WasListed kind id filed after bytes number)
+    (λ bytes h same kept. let l = h same in (start, l.count, l.records, starts_at filed.index after behind start is (point bytes kept), l.up_to, l.are)) read
 
 -- all blocks were read
 pub listed_all : {T S : Type 0} (kind : Kind T) (told : Option (List ℕ)) (id : FileId) (len : ℕ) (filed : Filed S) (after behind start number : ℕ) (found : List T) → start ≡ behind - 1

@@ -173,11 +173,14 @@ AreRecordsOf {T} kind id bytes index start (suc count) records =
     (before : List T) × (block : List T) × (body : List ℕ) × AreRecordsOf kind id bytes index start count before × HasBody id bytes index (start + count) body
     × AllByRecursion kind.fits block × (body ≡ block_of kind block) × (records ≡ before ++ block)
 
--- what a scan gives: of the records of the blocks from the last one on that begins at most at `after`, or from the first one on, those
--- with numbers above `after`
+-- where a scan begins: at the last block that begins at most at `after`, or at the first block
+abbrev pub StartsAt : List Entry → ℕ → ℕ → Type 0
+StartsAt index after start = ((start ≡ 0) × BeginUpTo index after 0) ⊎ BeginUpTo index after (start + 1)
+
+-- what a scan gives: of the records of the blocks from the one on at which it begins, those with numbers above `after`
 abbrev pub IsListed : {T : Type 0} → Kind T → FileId → List ℕ → List Entry → ℕ → List T → Type 0
 IsListed {T} kind id bytes index after found =
-    (start : ℕ) × (count : ℕ) × (records : List T) × (((start ≡ 0) × BeginUpTo index after 0) ⊎ BeginUpTo index after (start + 1)) × (start + count ≡ length index)
+    (start : ℕ) × (count : ℕ) × (records : List T) × StartsAt index after start × (start + count ≡ length index)
     × AreRecordsOf kind id bytes index start count records × (found ≡ filter (λ it. nat_lt after (kind.seq it)) records)
 
 -- What is wrong with a block of this index: its frame, or its body. P says what is wrong with a body at its place.
@@ -189,6 +192,18 @@ pub record IsBlockRefused (id : FileId) (bytes : List ℕ) (index : List Entry) 
   pub entry_is : slice_index_or index number entry ≡ entry
   pub why : (block_body id bytes entry.at entry.len number ≡ Err fault)
       ⊎ ((body : List ℕ) × (block_body id bytes entry.at entry.len number ≡ Ok body) × P entry.at body fault)
+
+-- what is wrong with the block in which a number is sought
+abbrev pub IsSoughtRefused : {T S : Type 0} → Kind T → FileId → List ℕ → Filed S → ℕ → Fault → Type 0
+IsSoughtRefused kind id bytes filed number fault =
+    (refused : IsBlockRefused id bytes filed.index (IsUnfitFor kind number id) fault) × (IsRead id bytes filed → BeginUpTo filed.index number (refused.number + 1))
+
+-- what is wrong with a block behind others that are whole, from the one on at which a scan begins
+abbrev pub IsScanRefused : {T S : Type 0} → Kind T → FileId → List ℕ → Filed S → ℕ → Fault → Type 0
+IsScanRefused {T} kind id bytes filed after fault =
+    (refused : IsBlockRefused id bytes filed.index (IsBlockUnfit kind id) fault)
+    × (IsRead id bytes filed → (start : ℕ) × (count : ℕ) × (records : List T) × StartsAt filed.index after start × (start + count ≡ refused.number)
+    × AreRecordsOf kind id bytes filed.index start count records)
 
 -- The body is that of the block of this number, from 0 on.
 pub record IsBlock {T : Type 0} (kind : Kind T) (blocks : List (List T)) (number : ℕ) (body : List ℕ) : Type 0 where

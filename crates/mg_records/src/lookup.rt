@@ -1,10 +1,10 @@
 //! Records of a file are found by their numbers.
 
-ghost use Rattle.std.specs.Prelude.{◌≡◌, ◌<◌, ◌≤◌, ◌⊎◌, List, length, slice_index_or, filter, nat_lt, IfErr, IfOk, IfSome, IsSome, MatchResult, Ok, None};
+ghost use Rattle.std.specs.Prelude.{◌≡◌, ◌<◌, ◌≤◌, ◌⊎◌, List, [], length, slice_index_or, filter, nat_lt, IfErr, IfOk, IfSome, IsOkAnd, IsSome, MatchResult, Ok, None};
 ghost use Rattle.std.specs.List.Sorted.{IsNonDecreasingBy, IsPartitionPoint};
 ghost use Rattle.mg_faults.specs.Causes.{HasCause};
 ghost use Rattle.mg_records.specs.File.{record_of};
-ghost use Rattle.mg_records.specs.Reading.{IsBlock, IsBlockFault, IsBlockRefused, IsBlockUnfit, IsGot, IsListed, IsRead, IsUnfitFor};
+ghost use Rattle.mg_records.specs.Reading.{IsBlock, IsBlockFault, IsGot, IsListed, IsRead, IsScanRefused, IsSoughtRefused};
 ghost use Rattle.mg_records.specs.Writing.{Holds};
 ghost use Rattle.mg_records.specs.declared.index.Entry.{Entry};
 ghost use Rattle.mg_sealed.specs.Answers.{Answers, IsOutside};
@@ -34,7 +34,7 @@ pub fn get_record<F: Files, R: Record>(
         IfOk result (λ found. IfSome (F.told file.now.file.file) (λ bytes. IsRead file.now.file.id bytes file.now →
         file.now.file.len ≡ length bytes → IsGot R.kind file.now.file.id bytes file.now.index number found)) }
     ensures causes { IfErr result (λ fault. IfSome (F.told file.now.file.file) (λ bytes. file.now.file.len ≡ length bytes →
-        IsOutside fault ⊎ IsBlockRefused file.now.file.id bytes file.now.index (IsUnfitFor R.kind number file.now.file.id) fault)) }
+        IsOutside fault ⊎ IsSoughtRefused R.kind file.now.file.id bytes file.now number fault)) }
     ensures refusals { IfErr result (λ fault. IsOutside fault ⊎ IsBlockFault file.now.file.id file.now.index fault) }
     ensures cause { HasCause Fault.ReadFault (F.faults port.old) (F.faults port.new) result }
 {
@@ -60,12 +60,12 @@ pub fn scan_records<F: Files, R: Record>(
 ) -> Result<Vec<R>, Fault>
     ensures scanned { IsSome (F.told file.now.file.file) → (records : List R) → Holds R.kind F.told file.now records →
         MatchResult result (λ found. found.items ≡ filter (λ it. nat_lt after (R.kind.seq it)) records) (λ fault. IsOutside fault) }
-    ensures unread { file.now.foot.last ≤ after → port.new ≡ port.old }
+    ensures unread { file.now.foot.last ≤ after → (port.new ≡ port.old) × IsOkAnd result (λ found. found.items ≡ []) }
     ensures read { after < file.now.foot.last →
         IfOk result (λ found. IfSome (F.told file.now.file.file) (λ bytes. IsRead file.now.file.id bytes file.now →
         file.now.file.len ≡ length bytes → IsListed R.kind file.now.file.id bytes file.now.index after found.items)) }
     ensures causes { IfErr result (λ fault. IfSome (F.told file.now.file.file) (λ bytes. file.now.file.len ≡ length bytes →
-        IsOutside fault ⊎ IsBlockRefused file.now.file.id bytes file.now.index (IsBlockUnfit R.kind file.now.file.id) fault)) }
+        IsOutside fault ⊎ IsScanRefused R.kind file.now.file.id bytes file.now after fault)) }
     ensures refusals { IfErr result (λ fault. IsOutside fault ⊎ IsBlockFault file.now.file.id file.now.index fault) }
     ensures cause { HasCause Fault.ReadFault (F.faults port.old) (F.faults port.new) result }
 {

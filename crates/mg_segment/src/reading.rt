@@ -1,11 +1,11 @@
 //! A segment is opened and read.
 
-ghost use Rattle.std.specs.Prelude.{◌≡◌, ◌<◌, ◌≤◌, ◌^◌, ◌⊎◌, List, length, filter, nat_lt, IfSome, IfErr, IfOk, IsSome, MatchResult, Ok, None};
+ghost use Rattle.std.specs.Prelude.{◌≡◌, ◌<◌, ◌≤◌, ◌^◌, ◌⊎◌, List, [], length, filter, nat_lt, IfSome, IfErr, IfOk, IsOkAnd, IsSome, MatchResult, Ok, None};
 ghost use Rattle.mg_faults.specs.Causes.{HasCause};
 ghost use Rattle.mg_model.specs.declared.documents.Item.{Item};
 ghost use Rattle.mg_records.specs.ItemRecord.{item_kind};
 ghost use Rattle.mg_records.specs.File.{IsFile, record_of};
-ghost use Rattle.mg_records.specs.Reading.{IsBlockFault, IsBlockRefused, IsBlockUnfit, IsRead, IsUnfitFor};
+ghost use Rattle.mg_records.specs.Reading.{IsBlockFault, IsGot, IsListed, IsRead, IsScanRefused, IsSoughtRefused};
 ghost use Rattle.mg_records.specs.Refusals.{IsRefused};
 ghost use Rattle.mg_records.specs.Writing.{Holds};
 ghost use Rattle.mg_sealed.specs.Answers.{IsOutside};
@@ -48,8 +48,11 @@ pub fn get_item<F: Files>(
     ensures found { IsSome (F.told segment.now.file.file) → (items : List Item) → Holds item_kind F.told segment.now items →
         MatchResult result (λ found. found ≡ record_of item_kind seq items) (λ fault. IsOutside fault) }
     ensures unread { (seq < segment.now.foot.first) ⊎ (segment.now.foot.last < seq) → (port.new ≡ port.old) × (result ≡ Ok None) }
+    ensures read { segment.now.foot.first ≤ seq → seq ≤ segment.now.foot.last →
+        IfOk result (λ found. IfSome (F.told segment.now.file.file) (λ bytes. IsRead segment.now.file.id bytes segment.now →
+        segment.now.file.len ≡ length bytes → IsGot item_kind segment.now.file.id bytes segment.now.index seq found)) }
     ensures causes { IfErr result (λ fault. IfSome (F.told segment.now.file.file) (λ bytes. segment.now.file.len ≡ length bytes →
-        IsOutside fault ⊎ IsBlockRefused segment.now.file.id bytes segment.now.index (IsUnfitFor item_kind seq segment.now.file.id) fault)) }
+        IsOutside fault ⊎ IsSoughtRefused item_kind segment.now.file.id bytes segment.now seq fault)) }
     ensures refusals { IfErr result (λ fault. IsOutside fault ⊎ IsBlockFault segment.now.file.id segment.now.index fault) }
     ensures cause { HasCause Fault.ReadFault (F.faults port.old) (F.faults port.new) result }
 {
@@ -65,9 +68,12 @@ pub fn scan_items<F: Files>(
 ) -> Result<Vec<Item>, Fault>
     ensures scanned { IsSome (F.told segment.now.file.file) → (items : List Item) → Holds item_kind F.told segment.now items →
         MatchResult result (λ found. found.items ≡ filter (λ item. nat_lt after item.seq) items) (λ fault. IsOutside fault) }
-    ensures unread { segment.now.foot.last ≤ after → port.new ≡ port.old }
+    ensures unread { segment.now.foot.last ≤ after → (port.new ≡ port.old) × IsOkAnd result (λ found. found.items ≡ []) }
+    ensures read { after < segment.now.foot.last →
+        IfOk result (λ found. IfSome (F.told segment.now.file.file) (λ bytes. IsRead segment.now.file.id bytes segment.now →
+        segment.now.file.len ≡ length bytes → IsListed item_kind segment.now.file.id bytes segment.now.index after found.items)) }
     ensures causes { IfErr result (λ fault. IfSome (F.told segment.now.file.file) (λ bytes. segment.now.file.len ≡ length bytes →
-        IsOutside fault ⊎ IsBlockRefused segment.now.file.id bytes segment.now.index (IsBlockUnfit item_kind segment.now.file.id) fault)) }
+        IsOutside fault ⊎ IsScanRefused item_kind segment.now.file.id bytes segment.now after fault)) }
     ensures refusals { IfErr result (λ fault. IsOutside fault ⊎ IsBlockFault segment.now.file.id segment.now.index fault) }
     ensures cause { HasCause Fault.ReadFault (F.faults port.old) (F.faults port.new) result }
 {

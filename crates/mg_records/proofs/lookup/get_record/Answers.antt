@@ -5,7 +5,7 @@ use Rattle.mg_sealed.specs.Filling.{items_of}
 use Rattle.mg_model.specs.declared.faults.Fault.TheVariants.{NoMemory}
 use Rattle.mg_sealed.specs.Answers.{IsOutside}
 use Rattle.mg_sealed.proofs.AnswerLaws.{err_is, err_then, ok_then, some_any}
-use Rattle.mg_records.specs.Reading.{IsBlockFault, IsBlockRefused, IsBlockUnfit, IsFoundIn, IsGot, IsRead, IsUnfitFor}
+use Rattle.mg_records.specs.Reading.{BeginUpTo, IsBlockFault, IsBlockUnfit, IsFoundIn, IsGot, IsRead, IsSoughtRefused, IsUnfitFor}
 use Rattle.mg_records.specs.File.{block_of, first_number, last_number, index_from, record_of, AreBlocks}
 use Rattle.mg_records.specs.Writing.{Filed}
 use Rattle.mg_records.specs.declared.foot.Foot.{Foot}
@@ -84,34 +84,44 @@ returns-clause-refusals g c =
 pub returns-in_err-frame-clause-causes : goal.returns-in_err-frame-clause-causes
 returns-in_err-frame-clause-causes g c =
     let kind = g.R.Record.kind in
+    let number = c.args.number in
     let filed = c.args.file.now in
     let told = g.F.Files.told filed.file.file in
-    let k = c.blocks_up_to-behind.result - 1 in
+    let behind = c.blocks_up_to-behind.result in
+    let k = behind - 1 in
     let fault = c.in_err-frame.field-0.0 in
-    let P = IsUnfitFor kind c.args.number filed.file.id in
     let index : c.deref.result.now ≡ filed.index = c.deref.ensures.value ∙ ap (λ (f : Filed g.row.F-Sealed.Denot). f.index) c.file.view_is in
     let within : k < length filed.index = omega (arith, c.blocks_up_to-behind.ensures.bound, ap length index, c.if-behind-eq0.false) in
+    let next : behind ≡ k + 1 = omega (arith, c.if-behind-eq0.false) in
     let there = entry_there filed.index k within in
-    err_is c.from_residual.result fault (λ fault. IfSome told (λ bytes. filed.file.len ≡ length bytes → IsOutside fault ⊎ IsBlockRefused filed.file.id bytes filed.index P fault)) (grind (arith, common_steps))
-    (frame_refused told filed.file.id filed.file.len filed.index k there.0 P fault within there.1 (c.in_err-frame.ensures.told there.0 there.1))
+    let sought = some_any told (λ bytes. filed.file.len ≡ length bytes → IsRead filed.file.id bytes filed → BeginUpTo filed.index number (k + 1))
+    (λ bytes same kept. begin_up_to filed.file.id bytes filed c.deref.result.now number behind (k + 1) kept index next c.blocks_up_to-behind.ensures.point) in
+    err_is c.from_residual.result fault (λ fault. IfSome told (λ bytes. filed.file.len ≡ length bytes → IsOutside fault ⊎ IsSoughtRefused kind filed.file.id bytes filed number fault)) (grind (arith, common_steps))
+    (frame_refused told filed.file.id filed.file.len filed.index k there.0 (IsUnfitFor kind number filed.file.id) (λ bytes n. IsRead filed.file.id bytes filed → BeginUpTo filed.index number (n + 1)) fault within
+    there.1 sought (c.in_err-frame.ensures.told there.0 there.1))
 
 pub returns-clause-causes : goal.returns-clause-causes
 returns-clause-causes g c =
     let kind = g.R.Record.kind in
+    let number = c.args.number in
     let filed = c.args.file.now in
     let told = g.F.Files.told filed.file.file in
-    let k = c.blocks_up_to-behind.result - 1 in
+    let behind = c.blocks_up_to-behind.result in
+    let k = behind - 1 in
     let entry = c.index.result.now in
     let body = c.body.result.now in
-    let P = IsUnfitFor kind c.args.number filed.file.id in
     let index : c.deref.result.now ≡ filed.index = c.deref.ensures.value ∙ ap (λ (f : Filed g.row.F-Sealed.Denot). f.index) c.file.view_is in
     let within : k < length filed.index = omega (arith, c.blocks_up_to-behind.ensures.bound, ap length index, c.if-behind-eq0.false) in
+    let next : behind ≡ k + 1 = omega (arith, c.if-behind-eq0.false) in
     let is : slice_index_or filed.index k entry ≡ entry = grind (arith, common_steps) in
     let id : c.file.inside.file.id ≡ filed.file.id = ap (λ (f : Filed g.row.F-Sealed.Denot). f.file.id) c.file.view_is in
-    err_then c.find_in_block.result (λ fault. (fault ≡ NoMemory) ⊎ IsUnfitFor kind c.args.number c.file.inside.file.id entry.at body fault)
-    (λ fault. IfSome told (λ bytes. filed.file.len ≡ length bytes → IsOutside fault ⊎ IsBlockRefused filed.file.id bytes filed.index P fault))
-    (λ fault result unfit. body_refused told filed.file.id filed.file.len filed.index k entry c.in_ok-frame.frame body P fault within is c.body.ensures
-    (subst (λ i. (fault ≡ NoMemory) ⊎ IsUnfitFor kind c.args.number i entry.at body fault) id unfit) (c.in_ok-frame.ensures.told entry is))
+    let sought = some_any told (λ bytes. filed.file.len ≡ length bytes → IsRead filed.file.id bytes filed → BeginUpTo filed.index number (k + 1))
+    (λ bytes same kept. begin_up_to filed.file.id bytes filed c.deref.result.now number behind (k + 1) kept index next c.blocks_up_to-behind.ensures.point) in
+    err_then c.find_in_block.result (λ fault. (fault ≡ NoMemory) ⊎ IsUnfitFor kind number c.file.inside.file.id entry.at body fault)
+    (λ fault. IfSome told (λ bytes. filed.file.len ≡ length bytes → IsOutside fault ⊎ IsSoughtRefused kind filed.file.id bytes filed number fault))
+    (λ fault result unfit. body_refused told filed.file.id filed.file.len filed.index k entry c.in_ok-frame.frame body (IsUnfitFor kind number filed.file.id)
+    (λ bytes n. IsRead filed.file.id bytes filed → BeginUpTo filed.index number (n + 1)) fault within is c.body.ensures
+    (subst (λ i. (fault ≡ NoMemory) ⊎ IsUnfitFor kind number i entry.at body fault) id unfit) sought (c.in_ok-frame.ensures.told entry is))
     c.find_in_block.ensures.refusals
 
 pub returns-then-behind-eq0-clause-read : goal.returns-then-behind-eq0-clause-read

@@ -5,12 +5,12 @@ use Rattle.mg_model.specs.declared.faults.Fault.TheVariants.{NoMemory}
 use Rattle.mg_sealed.specs.Filling.{items_of}
 use Rattle.mg_sealed.specs.Answers.{IsOutside}
 use Rattle.mg_sealed.proofs.AnswerLaws.{err_is, some_any}
-use Rattle.mg_records.specs.Reading.{IsBlockFault, IsBlockRefused, IsBlockUnfit}
+use Rattle.mg_records.specs.Reading.{IsBlockFault, IsBlockUnfit, IsScanRefused}
 use Rattle.mg_records.specs.File.{index_from, last_number, AreBlocks}
 use Rattle.mg_records.specs.Writing.{Filed}
 use Rattle.mg_records.specs.declared.foot.Foot.{Foot}
 use Rattle.mg_records.proofs.FileLaws.{length-index_from}
-use Rattle.mg_records.proofs.LookupLaws.{IsListedUpTo, begin_up_to, listed_all, listed_none, listed_on, none_over_last, point_of, no_entry, fits-parts, outside_answer, entry_there, block_fault, body_refused, frame_refused, scan_begins, scan_step, scan_ends}
+use Rattle.mg_records.proofs.LookupLaws.{IsListedUpTo, WasListed, begin_up_to, listed_all, listed_before, listed_none, listed_on, none_over_last, point_of, no_entry, fits-parts, outside_answer, entry_there, block_fault, body_refused, frame_refused, scan_begins, scan_step, scan_ends}
 use Rattle.mg_records.proofs.ScanLaws.{block_not_unfit, scanned_right}
 use Rattle.mg_records.proofs.lookup.scan_records.Goals as goal
 
@@ -70,32 +70,46 @@ returns-in_err-scan_block-clause-refusals g c =
 
 pub returns-in_err-frame-clause-causes : goal.returns-in_err-frame-clause-causes
 returns-in_err-frame-clause-causes g c =
+    let kind = g.R.Record.kind in
+    let after = c.args.after in
     let filed = c.args.file.now in
     let told = g.F.Files.told filed.file.file in
     let k = c.loop-number.number in
-    let P = IsBlockUnfit g.R.Record.kind filed.file.id in
+    let behind = c.blocks_up_to.result in
+    let start = c.saturating_sub-start.result in
+    let index : c.deref.result.now ≡ filed.index = c.deref.ensures.value ∙ ap (λ (f : Filed g.row.F-Sealed.Denot). f.index) c.file.view_is in
+    let starts : start ≡ behind - 1 = grind (arith, common_steps) in
     let within : k < length filed.index = grind (arith, common_steps) in
     let there = entry_there filed.index k within in
+    let before = listed_before kind told filed.file.id filed.file.len filed after behind start k c.loop-number.records.items starts
+    (λ bytes kept. begin_up_to filed.file.id bytes filed c.deref.result.now after behind behind kept index refl c.blocks_up_to.ensures.point) c.loop-number.invariant.2 in
     let fault = c.in_err-frame.field-0.0 in
-    err_is c.from_residual.result fault (λ fault. IfSome told (λ bytes. filed.file.len ≡ length bytes → IsOutside fault ⊎ IsBlockRefused filed.file.id bytes filed.index P fault)) (grind (arith, common_steps))
-    (frame_refused told filed.file.id filed.file.len filed.index k there.0 P fault within there.1 (c.in_err-frame.ensures.told there.0 there.1))
+    err_is c.from_residual.result fault (λ fault. IfSome told (λ bytes. filed.file.len ≡ length bytes → IsOutside fault ⊎ IsScanRefused kind filed.file.id bytes filed after fault)) (grind (arith, common_steps))
+    (frame_refused told filed.file.id filed.file.len filed.index k there.0 (IsBlockUnfit kind filed.file.id) (WasListed kind filed.file.id filed after) fault within there.1 before
+    (c.in_err-frame.ensures.told there.0 there.1))
 
 pub returns-in_err-scan_block-clause-causes : goal.returns-in_err-scan_block-clause-causes
 returns-in_err-scan_block-clause-causes g c =
     let kind = g.R.Record.kind in
+    let after = c.args.after in
     let filed = c.args.file.now in
     let told = g.F.Files.told filed.file.file in
     let k = c.loop-number.number in
+    let behind = c.blocks_up_to.result in
+    let start = c.saturating_sub-start.result in
     let entry = c.index.result.now in
-    let P = IsBlockUnfit kind filed.file.id in
+    let index : c.deref.result.now ≡ filed.index = c.deref.ensures.value ∙ ap (λ (f : Filed g.row.F-Sealed.Denot). f.index) c.file.view_is in
+    let starts : start ≡ behind - 1 = grind (arith, common_steps) in
     let within : k < length filed.index = grind (arith, common_steps) in
     let is : slice_index_or filed.index k entry ≡ entry = grind (arith, common_steps) in
     let id : c.file.inside.file.id ≡ filed.file.id = ap (λ (f : Filed g.row.F-Sealed.Denot). f.file.id) c.file.view_is in
+    let before = listed_before kind told filed.file.id filed.file.len filed after behind start k c.loop-number.records.items starts
+    (λ bytes kept. begin_up_to filed.file.id bytes filed c.deref.result.now after behind behind kept index refl c.blocks_up_to.ensures.point) c.loop-number.invariant.2 in
     let fault = c.in_err-scan_block.field-0.0 in
     let body = c.body.result.now in
-    err_is c.from_residual-in_err-scan_block.result fault (λ fault. IfSome told (λ bytes. filed.file.len ≡ length bytes → IsOutside fault ⊎ IsBlockRefused filed.file.id bytes filed.index P fault)) (grind (arith, common_steps))
-    (body_refused told filed.file.id filed.file.len filed.index k entry c.in_ok-frame.frame body P fault within is c.body.ensures
-    (subst (λ i. (fault ≡ NoMemory) ⊎ IsBlockUnfit kind i entry.at body fault) id c.in_err-scan_block.ensures.refusals) (c.in_ok-frame.ensures.told entry is))
+    err_is c.from_residual-in_err-scan_block.result fault (λ fault. IfSome told (λ bytes. filed.file.len ≡ length bytes → IsOutside fault ⊎ IsScanRefused kind filed.file.id bytes filed after fault)) (grind (arith, common_steps))
+    (body_refused told filed.file.id filed.file.len filed.index k entry c.in_ok-frame.frame body (IsBlockUnfit kind filed.file.id) (WasListed kind filed.file.id filed after) fault within is c.body.ensures
+    (subst (λ i. (fault ≡ NoMemory) ⊎ IsBlockUnfit kind i entry.at body fault) id c.in_err-scan_block.ensures.refusals) before (c.in_ok-frame.ensures.told entry is))
 
 pub loop-number-preserved : goal.loop-number-preserved
 loop-number-preserved g c = (
