@@ -67,7 +67,7 @@ no_stop id at least place rest [] fault is index (inl item) =
 no_stop id at least place rest (e ∷ es) fault is index (inl item) =
     let one = one_entry item.0 e item.1 (index_bytes es) item.2 (is_entry e es least place at index) (sym item.3 ∙ is) in
     not_unfit id at least place e es at fault index (subst (λ (x : Entry). IsEntryUnfit id at least place x fault) one.0 item.4)
-no_stop id at least place rest [] fault is index (inr none) = elim none.1 [ | inl some ↦ some is | inr other ↦ other index ]
+no_stop id at least place rest [] fault is index (inr none) = elim none.1 [ inl some ↦ some is | inr other ↦ other index ]
 no_stop id at least place rest (e ∷ es) fault is index (inr none) = none.0 e (index_bytes es) (is_entry e es least place at index) is
 
 -- the body of an index is not refused

@@ -20,7 +20,7 @@ pub foot_frame_refused : (told : Option (List ℕ)) (id : FileId) (len : ℕ) (f
     → IfSome told (λ bytes. len ≡ length bytes → IsOutside fault ⊎ IsFootRefused id bytes fault)
 foot_frame_refused told id len fault read =
     some_then told (λ bytes. len ≡ length bytes → Answers (foot_body id bytes 65 1) (Err fault)) (λ bytes. len ≡ length bytes → IsOutside fault ⊎ IsFootRefused id bytes fault)
-    (λ bytes h same. elim (h same) [ | inl outside ↦ inl outside | inr is ↦ inr (inl is) ]) read
+    (λ bytes h same. elim (h same) [ inl outside ↦ inl outside | inr is ↦ inr (inl is) ]) read
 
 pub foot_unfit : (told : Option (List ℕ)) (id : FileId) (len : ℕ) (frame body : List ℕ) (fault : Fault) → body ≡ frame → IsFootUnfit id (len - 65) body fault
     → IfSome told (λ bytes. len ≡ length bytes → foot_body id bytes 65 1 ≡ Ok frame)

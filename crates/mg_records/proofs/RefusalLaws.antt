@@ -60,7 +60,7 @@ pub file_refused : {S : Type 0} (told : Option (List ℕ)) (id : FileId) (file :
 file_refused {S} told id file len fault read =
     let answer : Result (SealedFile S) Fault = Err fault in
     some_then told (λ bytes. Answers (opened id file len 65 bytes) answer) (λ bytes. IsOutside fault ⊎ IsRefused id len bytes fault)
-    (λ bytes h. elim h [ | inl outside ↦ inl outside | inr is ↦ inr (inl (length_fault id file len bytes fault is)) ]) read
+    (λ bytes h. elim h [ inl outside ↦ inl outside | inr is ↦ inr (inl (length_fault id file len bytes fault is)) ]) read
 
 pub foot_refused : {S : Type 0} (told : S → Option (List ℕ)) (file : SealedFile S) (id : FileId) (given : S) (len : ℕ) (fault : Fault)
     → file ≡ record { id = id; file = given; len = len } → 65 ≤ file.len → IfSome (told given) (λ bytes. length bytes ≡ len)
@@ -69,7 +69,7 @@ pub foot_refused : {S : Type 0} (told : S → Option (List ℕ)) (file : SealedF
 foot_refused {S} told file id given len fault same enough long is =
     let enough' : 65 ≤ len = omega (arith, enough, ap (λ (f : SealedFile S). f.len) same) in
     some_then (told given) (λ bytes. (length bytes ≡ len) × (IsOutside fault ⊎ IsFootRefused id bytes fault)) (λ bytes. IsOutside fault ⊎ IsRefused id len bytes fault)
-    (λ bytes h. elim h.1 [ | inl outside ↦ inl outside | inr foot ↦ inr (inr (h.0, enough', inl foot)) ])
+    (λ bytes h. elim h.1 [ inl outside ↦ inl outside | inr foot ↦ inr (inr (h.0, enough', inl foot)) ])
     (some_both (told given) (λ bytes. length bytes ≡ len) (λ bytes. IsOutside fault ⊎ IsFootRefused id bytes fault) long
     (opened_told told file id given len (λ i bytes. IsOutside fault ⊎ IsFootRefused i bytes fault) same long is))
 
@@ -81,7 +81,7 @@ pub index_refused : {S : Type 0} (told : S → Option (List ℕ)) (file : Sealed
 index_refused {S} told file id given len foot fault same enough long ends is =
     let enough' : 65 ≤ len = omega (arith, enough, ap (λ (f : SealedFile S). f.len) same) in
     some_then (told given) (λ bytes. (length bytes ≡ len) × (EndsIn id bytes foot × (IsOutside fault ⊎ IsIndexRefused id bytes foot fault))) (λ bytes. IsOutside fault ⊎ IsRefused id len bytes fault)
-    (λ bytes h. elim h.1.1 [ | inl outside ↦ inl outside | inr index ↦ inr (inr (h.0, enough', inr (foot, h.1.0, index))) ])
+    (λ bytes h. elim h.1.1 [ inl outside ↦ inl outside | inr index ↦ inr (inr (h.0, enough', inr (foot, h.1.0, index))) ])
     (some_both (told given) (λ bytes. length bytes ≡ len) (λ bytes. EndsIn id bytes foot × (IsOutside fault ⊎ IsIndexRefused id bytes foot fault)) long
     (some_both (told given) (λ bytes. EndsIn id bytes foot) (λ bytes. IsOutside fault ⊎ IsIndexRefused id bytes foot fault)
     (opened_told told file id given len (λ i bytes. EndsIn i bytes foot) same long ends)
@@ -216,4 +216,4 @@ not_loaded {T} {V} kind lawful told id len result fault P is why =
     some_then told (λ bytes. IsOutside fault ⊎ IsRefused id len bytes fault)
     (λ bytes. (records : List T) → IsFile kind bytes records → length bytes ≡ len → MatchResult result (P records) (λ f. IsOutside f))
     (λ bytes h records file long. subst (λ (r : Result V Fault). MatchResult r (P records) (λ f. IsOutside f)) (sym is)
-    (elim h [ | inl outside ↦ outside | inr refused ↦ absurd (file_not_refused kind lawful id len bytes records fault file long refused) ])) why
+    (elim h [ inl outside ↦ outside | inr refused ↦ absurd (file_not_refused kind lawful id len bytes records fault file long refused) ])) why

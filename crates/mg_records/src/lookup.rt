@@ -108,12 +108,5 @@ fn read_numbered<F: Files, R: Record>(
     ensures cause { HasCause Fault.ReadFault (F.faults port.old) (F.faults port.new) result }
 {
     let entry = file.index[number];
-    read_block(
-        alloc,
-        port,
-        &file.file,
-        entry.at,
-        entry.len,
-        number as u64,
-    )
+    read_block(alloc, port, &file.file, entry.at, entry.len, number as u64)
 }

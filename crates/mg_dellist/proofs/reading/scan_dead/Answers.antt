@@ -45,7 +45,7 @@ returns-in_err-zero-clause-causes g c =
     (grind (arith, common_steps))
     (some_then (told filed.file.file) (λ bytes. filed.file.len ≡ length bytes → IsOutside fault ⊎ IsSoughtRefused dead_kind filed.file.id bytes filed 0 fault)
     (λ bytes. filed.file.len ≡ length bytes → IsOutside fault ⊎ IsSoughtRefused dead_kind filed.file.id bytes filed 0 fault ⊎ IsScanRefused dead_kind filed.file.id bytes filed 0 fault)
-    (λ bytes h same. elim (h same) [ | inl outside ↦ inl outside | inr sought ↦ inr (inl sought) ]) known)
+    (λ bytes h same. elim (h same) [ inl outside ↦ inl outside | inr sought ↦ inr (inl sought) ]) known)
 
 pub returns-in_err-above-clause-causes : goal.returns-in_err-above-clause-causes
 returns-in_err-above-clause-causes g c =
@@ -59,7 +59,7 @@ returns-in_err-above-clause-causes g c =
     (grind (arith, common_steps))
     (some_then (told filed.file.file) (λ bytes. filed.file.len ≡ length bytes → IsOutside fault ⊎ IsScanRefused dead_kind filed.file.id bytes filed 0 fault)
     (λ bytes. filed.file.len ≡ length bytes → IsOutside fault ⊎ IsSoughtRefused dead_kind filed.file.id bytes filed 0 fault ⊎ IsScanRefused dead_kind filed.file.id bytes filed 0 fault)
-    (λ bytes h same. elim (h same) [ | inl outside ↦ inl outside | inr scanned ↦ inr (inr scanned) ]) known)
+    (λ bytes h same. elim (h same) [ inl outside ↦ inl outside | inr scanned ↦ inr (inr scanned) ]) known)
 
 pub returns-clause-read : goal.returns-clause-read
 returns-clause-read g c =

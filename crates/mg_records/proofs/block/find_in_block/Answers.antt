@@ -24,10 +24,16 @@ returns-then-next-number-clause-found g c =
     let next = c.in_ok-next.ensures.spelled in
     let took = c.in_ok-take.ensures in
     let it = c.in_ok-take.field-0 in
-    let same : it ≡ next.0 = same_record kind g.met.R.Record.lawful it next.0 took.0 next.1 (sym took.1 ∙ next.3) in
-    (h.0, c.in_ok-next.next.rest.now, h.1, took.0, ap kind.seq same ∙ sym next.2 ∙ c.if-next-number.true, h.3,
-    h.2 ∙ ap (λ (b : List ℕ). block_of kind h.0 ++ b) (next.4 ∙ ap (λ (b : List ℕ). b ++ c.in_ok-next.next.rest.now) took.1)
-    ∙ sym (append_assoc (block_of kind h.0) (kind.spelled it) c.in_ok-next.next.rest.now))
+    let same : it ≡ next.0 = same_record kind g.met.R.Record.lawful it next.0 took.0 next.1 (sym took.1 ∙ next.3) in (
+      h.0,
+      c.in_ok-next.next.rest.now,
+      h.1,
+      took.0,
+      ap kind.seq same ∙ sym next.2 ∙ c.if-next-number.true,
+      h.3,
+      h.2 ∙ ap (λ (b : List ℕ). block_of kind h.0 ++ b) (next.4 ∙ ap (λ (b : List ℕ). b ++ c.in_ok-next.next.rest.now) took.1)
+          ∙ sym (append_assoc (block_of kind h.0) (kind.spelled it) c.in_ok-next.next.rest.now),
+    )
 
 pub loop-rest-preserved : goal.loop-rest-preserved
 loop-rest-preserved g c =

@@ -32,9 +32,9 @@ loop-number-init g c = (
       ∙ scan_begins kind blocks holds.are after start behind no_entry starts bound point
       ∙ ap (filter (λ it. nat_lt after (kind.seq it))) holds.all,
   let filed = c.args.file.now in
-  let start = c.saturating_sub-start.result in
-  some_any (g.F.Files.told filed.file.file) (λ bytes. filed.file.len ≡ length bytes → IsListedUpTo g.R.Record.kind filed.file.id bytes filed.index c.args.after start start c.new-records.result.items)
-  (λ bytes long. listed_none g.R.Record.kind filed.file.id bytes filed.index c.args.after start c.new-records.result.items c.new-records.ensures.items),
+      let start = c.saturating_sub-start.result in
+      some_any (g.F.Files.told filed.file.file) (λ bytes. filed.file.len ≡ length bytes → IsListedUpTo g.R.Record.kind filed.file.id bytes filed.index c.args.after start start c.new-records.result.items)
+      (λ bytes long. listed_none g.R.Record.kind filed.file.id bytes filed.index c.args.after start c.new-records.result.items c.new-records.ensures.items),
 )
 
 pub returns-in_err-frame-clause-scanned : goal.returns-in_err-frame-clause-scanned
@@ -124,12 +124,12 @@ loop-number-preserved g c = (
       scan_step kind holds.blocks after k c.in_ok-frame.frame c.loop-number.records.items c.scan_block.new.records.items b more
       ∙ c.loop-number.invariant.1 some all holds,
   let filed = c.args.file.now in
-  let k = c.loop-number.number in
-  let entry = c.index.result.now in
-  let within : k < length filed.index = grind (arith, common_steps) in
-  let is : slice_index_or filed.index k entry ≡ entry = grind (arith, common_steps) in
-  listed_on g.R.Record.kind (g.F.Files.told filed.file.file) filed.file.id filed.file.len filed.index c.args.after c.saturating_sub-start.result k entry c.in_ok-frame.frame c.body.result.now
-  c.loop-number.records.items c.scan_block.new.records.items within is c.body.ensures c.in_ok-scan_block.ensures.scanned (c.in_ok-frame.ensures.told entry is) c.loop-number.invariant.2,
+      let k = c.loop-number.number in
+      let entry = c.index.result.now in
+      let within : k < length filed.index = grind (arith, common_steps) in
+      let is : slice_index_or filed.index k entry ≡ entry = grind (arith, common_steps) in
+      listed_on g.R.Record.kind (g.F.Files.told filed.file.file) filed.file.id filed.file.len filed.index c.args.after c.saturating_sub-start.result k entry c.in_ok-frame.frame c.body.result.now
+      c.loop-number.records.items c.scan_block.new.records.items within is c.body.ensures c.in_ok-scan_block.ensures.scanned (c.in_ok-frame.ensures.told entry is) c.loop-number.invariant.2,
 )
 
 pub returns-clause-scanned : goal.returns-clause-scanned
