@@ -1,9 +1,10 @@
 pub mod BlockLaws
+mod ContentsReading
 pub mod EntryLaws
 pub mod FieldLaws
 pub mod FileLaws
 pub mod FootCounts
-pub mod KnownLaws
+mod ItemReading
 pub mod ListLaws
 pub mod LoadingLaws
 pub mod LoadingSteps
