@@ -9,7 +9,8 @@ use Rattle.mg_sealed.specs.Answers.{IsOutside}
 use Rattle.mg_records.specs.File.{RiseAfter, AreRising, record_of}
 use Rattle.mg_records.specs.Record.{Kind}
 use Rattle.mg_records.proofs.ScanLaws.{record_of-here, record_of-later, filter-take, filter-pass}
-use Rattle.mg_records.specs.Reading.{IsGot, IsListed, IsRead}
+use Rattle.mg_records.specs.Lookup.{IsGot, IsListed}
+use Rattle.mg_records.specs.Reading.{IsRead}
 use Rattle.mg_records.specs.Writing.{Filed}
 use Rattle.mg_dellist.specs.declared.dead.Dead.{Dead}
 use Rattle.mg_dellist.specs.Entry.{dead_kind}

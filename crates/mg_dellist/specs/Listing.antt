@@ -1,7 +1,7 @@
 -- The entries of a delete list, in their order.
 use Rattle.std.specs.Prelude.{◌≡◌, ℕ, ◌<◌, List, [], ◌∷◌, Option, Some, None}
 use Rattle.mg_model.specs.declared.faults.FileId.{FileId}
-use Rattle.mg_records.specs.Reading.{IsGot, IsListed}
+use Rattle.mg_records.specs.Lookup.{IsGot, IsListed}
 use Rattle.mg_records.specs.Writing.{Filed}
 use Rattle.mg_dellist.specs.declared.dead.Dead.{Dead}
 use Rattle.mg_dellist.specs.Entry.{dead_kind}

@@ -19,7 +19,8 @@ use Rattle.mg_sealed.proofs.AnswerLaws.{answered, refused, some_any, some_both, 
 use Rattle.mg_sealed.proofs.WrittenLaws.{written_frame_is_read}
 use Rattle.mg_records.specs.File.{block_of, first_number, last_number, last_number_after, frame_length, index_from, end_of, RiseAfter, AreRising, AreBlocks, foot_of, bodies_of, index_bytes, foot_bytes, record_of}
 use Rattle.mg_records.specs.Record.{Kind, IsLawful}
-use Rattle.mg_records.specs.Reading.{AreRecordsOf, BeginUpTo, HasBody, IsIndexFrom, IsListed, IsScanned, IsBlock, IsBlockFault, IsBlockRefused, IsBlockUnfit, IsFoundIn, IsGot, IsRead, IsRecordUnfit, StartsAt}
+use Rattle.mg_records.specs.Lookup.{AreRecordsOf, BeginUpTo, HasBody, IsListed, IsScanned, IsBlock, IsBlockFault, IsBlockRefused, IsBlockUnfit, IsFoundIn, IsGot, IsRecordUnfit, StartsAt}
+use Rattle.mg_records.specs.Reading.{IsIndexFrom, IsRead}
 use Rattle.mg_records.specs.Writing.{Filed, Holds}
 use Rattle.mg_records.specs.declared.index.Entry.{Entry}
 use Rattle.mg_records.proofs.BlockLaws.{each-left, each-right}

@@ -8,7 +8,7 @@ use Rattle.std.specs.List.{AllByRecursion}
 use Rattle.mg_model.specs.declared.faults.Fault.{Fault}
 use Rattle.mg_model.specs.declared.faults.FileId.{FileId}
 use Rattle.mg_records.specs.File.{block_of, record_of}
-use Rattle.mg_records.specs.Reading.{IsBlockUnfit, IsFoundIn, IsRecordUnfit, IsScanned}
+use Rattle.mg_records.specs.Lookup.{IsBlockUnfit, IsFoundIn, IsRecordUnfit, IsScanned}
 use Rattle.mg_records.specs.Record.{Kind, IsLawful, BeginsWithNone, Measures}
 use Rattle.mg_records.specs.declared.record.Front.TheVariants.{Whole}
 use Rattle.mg_records.proofs.BlockLaws.{block_of-push, each-append}

@@ -4,6 +4,7 @@ pub mod File
 pub mod ItemLaws
 pub mod ItemRecord
 pub mod Lists
+pub mod Lookup
 pub mod Reading
 pub mod Record
 pub mod Refusals

@@ -1,7 +1,7 @@
 //! The records of a block.
 
 ghost use Rattle.std.specs.Prelude.{◌≡◌, ◌<◌, ◌⊎◌, ◌++◌, length, IfOk, IfErr};
-ghost use Rattle.mg_records.specs.Reading.{IsBlockUnfit, IsFoundIn, IsRecordUnfit, IsScanned, IsUnfitFor};
+ghost use Rattle.mg_records.specs.Lookup.{IsBlockUnfit, IsFoundIn, IsRecordUnfit, IsScanned, IsUnfitFor};
 
 use crate::record::{Front, Record};
 use mg_model::{Fault, FileId};

@@ -4,7 +4,8 @@ ghost use Rattle.std.specs.Prelude.{◌≡◌, ◌<◌, ◌≤◌, ◌⊎◌, Li
 ghost use Rattle.std.specs.List.Sorted.{IsNonDecreasingBy, IsPartitionPoint};
 ghost use Rattle.mg_faults.specs.Causes.{HasCause};
 ghost use Rattle.mg_records.specs.File.{record_of};
-ghost use Rattle.mg_records.specs.Reading.{IsBlock, IsBlockFault, IsGot, IsListed, IsRead, IsScanRefused, IsSoughtRefused};
+ghost use Rattle.mg_records.specs.Lookup.{IsBlock, IsBlockFault, IsGot, IsListed, IsScanRefused, IsSoughtRefused};
+ghost use Rattle.mg_records.specs.Reading.{IsRead};
 ghost use Rattle.mg_records.specs.Writing.{Holds};
 ghost use Rattle.mg_records.specs.declared.index.Entry.{Entry};
 ghost use Rattle.mg_sealed.specs.Answers.{Answers, IsOutside};

@@ -6,7 +6,8 @@ use Rattle.mg_dellist.specs.Entry.{dead_kind}
 use Rattle.mg_dellist.specs.Listing.{with_front, IsListing}
 use Rattle.mg_sealed.specs.Answers.{IsOutside}
 use Rattle.mg_records.specs.File.{AreRising, record_of}
-use Rattle.mg_records.specs.Reading.{IsBlockFault, IsGot, IsListed, IsRead, IsScanRefused, IsSoughtRefused}
+use Rattle.mg_records.specs.Lookup.{IsBlockFault, IsGot, IsListed, IsScanRefused, IsSoughtRefused}
+use Rattle.mg_records.specs.Reading.{IsRead}
 use Rattle.mg_records.specs.Writing.{Filed, Holds}
 use Rattle.mg_sealed.proofs.AnswerLaws.{err_is, ok_same, ok_then, some_then}
 use Rattle.mg_records.proofs.LookupLaws.{outside_answer}

@@ -4,7 +4,7 @@ use Rattle.std.proofs.lemmas.List.{append-nil}
 use Rattle.mg_model.specs.declared.faults.Fault.TheVariants.{NoMemory}
 use Rattle.mg_sealed.proofs.AnswerLaws.{err_is}
 use Rattle.mg_records.specs.File.{block_of}
-use Rattle.mg_records.specs.Reading.{IsUnfitFor}
+use Rattle.mg_records.specs.Lookup.{IsUnfitFor}
 use Rattle.mg_records.proofs.ScanLaws.{block_more, fits_more, record_of-none, same_record}
 use Rattle.mg_records.proofs.block.find_in_block.Goals as goal
 

@@ -4,7 +4,7 @@ use Rattle.std.proofs.lemmas.List.{append-nil}
 use Rattle.mg_model.specs.declared.faults.Fault.TheVariants.{NoMemory}
 use Rattle.mg_sealed.proofs.AnswerLaws.{err_is}
 use Rattle.mg_records.specs.File.{block_of}
-use Rattle.mg_records.specs.Reading.{IsBlockUnfit}
+use Rattle.mg_records.specs.Lookup.{IsBlockUnfit}
 use Rattle.mg_records.proofs.ScanLaws.{block_more, fits_more, filter_over, filter_under, same_record}
 use Rattle.mg_records.proofs.block.scan_block.Goals as goal
 use Rattle.mg_records.proofs.block.scan_block.Goals.{then-next-after+in_ok-take+in_ok-push, else-next-after}

@@ -5,7 +5,8 @@ use Rattle.mg_sealed.specs.Filling.{items_of}
 use Rattle.mg_model.specs.declared.faults.Fault.TheVariants.{NoMemory}
 use Rattle.mg_sealed.specs.Answers.{IsOutside}
 use Rattle.mg_sealed.proofs.AnswerLaws.{err_is, err_then, ok_then, some_any}
-use Rattle.mg_records.specs.Reading.{BeginUpTo, IsBlockFault, IsBlockUnfit, IsFoundIn, IsGot, IsRead, IsSoughtRefused, IsUnfitFor}
+use Rattle.mg_records.specs.Lookup.{BeginUpTo, IsBlockFault, IsBlockUnfit, IsFoundIn, IsGot, IsSoughtRefused, IsUnfitFor}
+use Rattle.mg_records.specs.Reading.{IsRead}
 use Rattle.mg_records.specs.File.{block_of, first_number, last_number, index_from, record_of, AreBlocks}
 use Rattle.mg_records.specs.Writing.{Filed}
 use Rattle.mg_records.specs.declared.foot.Foot.{Foot}

@@ -5,7 +5,7 @@ use Rattle.mg_model.specs.declared.faults.Fault.TheVariants.{NoMemory}
 use Rattle.mg_sealed.specs.Filling.{items_of}
 use Rattle.mg_sealed.specs.Answers.{IsOutside}
 use Rattle.mg_sealed.proofs.AnswerLaws.{err_is, some_any}
-use Rattle.mg_records.specs.Reading.{IsBlockFault, IsBlockUnfit, IsScanRefused}
+use Rattle.mg_records.specs.Lookup.{IsBlockFault, IsBlockUnfit, IsScanRefused}
 use Rattle.mg_records.specs.File.{index_from, last_number, AreBlocks}
 use Rattle.mg_records.specs.Writing.{Filed}
 use Rattle.mg_records.specs.declared.foot.Foot.{Foot}

@@ -1,7 +1,7 @@
 use Rattle.std.proofs.Common.{◌≡◌, ◌⊎◌, length, IfSome, IfErr, subst}
 use Rattle.mg_sealed.specs.Answers.{IsOutside}
 use Rattle.mg_records.specs.ItemRecord.{item_kind}
-use Rattle.mg_records.specs.Reading.{IsSoughtRefused}
+use Rattle.mg_records.specs.Lookup.{IsSoughtRefused}
 use Rattle.mg_records.specs.Writing.{Filed}
 use Rattle.mg_segment.proofs.reading.get_item.Goals as goal
 

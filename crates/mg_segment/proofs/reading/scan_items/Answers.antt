@@ -3,7 +3,7 @@ use Rattle.std.specs.Prelude.{filter, nat_lt, IsSome}
 use Rattle.mg_model.specs.declared.documents.Item.{Item}
 use Rattle.mg_sealed.specs.Answers.{IsOutside}
 use Rattle.mg_records.specs.ItemRecord.{item_kind}
-use Rattle.mg_records.specs.Reading.{IsScanRefused}
+use Rattle.mg_records.specs.Lookup.{IsScanRefused}
 use Rattle.mg_records.specs.Writing.{Filed, Holds}
 use Rattle.mg_segment.proofs.reading.scan_items.Goals as goal
 
