@@ -196,7 +196,7 @@ length_fits bytes small enough =
 
 -- ---- what each answer means
 
-slice_body : (bytes : List ℕ) (at size : ℕ) → slice_range bytes (at + 12) (at + 12 + size) ≡ take size (drop 12 (drop at bytes))
+pub slice_body : (bytes : List ℕ) (at size : ℕ) → slice_range bytes (at + 12) (at + 12 + size) ≡ take size (drop 12 (drop at bytes))
 slice_body bytes at size = ap (λ k. take k (drop (at + 12) bytes)) (omega arith) ∙ ap (take size) (sym (drop-drop 12 at bytes))
 
 StandsAt-whole : (bytes : List ℕ) (at number next : ℕ) → AreBytes bytes → at ≤ length bytes → said_length (drop at bytes) + 20 ≤ length (drop at bytes)

@@ -24,6 +24,13 @@ pub split_some : (width : ℕ) (bytes rest : List ℕ) (number : ℕ) → number
 split_some width bytes rest number fits is none =
     let z : None ≡ Some number = none ∙ ap (front_number width) is ∙ front_number-big_endian width number rest fits in cc
 
+-- a number at the front, and what follows it, are spelled in one way
+pub one_number : (width n m : ℕ) (rest more : List ℕ) → n < 256 ^ width → m < 256 ^ width → big_endian width n ++ rest ≡ big_endian width m ++ more → (n ≡ m) × (rest ≡ more)
+one_number width n m rest more fits fits' is =
+    let bytes = big_endian width n ++ rest in
+    let h = split_written width bytes more n m fits' is (sym (front_number-big_endian width n rest fits)) in
+    (h.0, sym (drop_at (big_endian width n) rest width (length-big_endian width n)) ∙ h.1)
+
 -- the bytes behind a front, as a slice of them
 pub tail_is : (n : ℕ) (bytes : List ℕ) → take (length bytes - n) (drop n bytes) ≡ drop n bytes
 tail_is n bytes = take_all (length bytes - n) (drop n bytes) (omega (arith, length-drop n bytes))

@@ -5,7 +5,7 @@ use Rattle.std.proofs.lemmas.List.Sums.{sum_by-cons}
 use Rattle.std.specs.Prelude.{sum_by}
 use Rattle.std.specs.List.{AllByRecursion}
 use Rattle.mg_records.specs.File.{block_of, first_number, last_number, last_number_after, RiseAfter, AreRising}
-use Rattle.mg_sealed.specs.Filling.{Fits, IsClosed, AreFilled, items_of}
+use Rattle.mg_sealed.specs.Filling.{Fits, AreFilled, items_of}
 use Rattle.mg_records.specs.Record.{Kind, IsLawful}
 
 -- ---- what holds of each record
@@ -68,13 +68,6 @@ AreRising-push kind (x ∷ xs) it rise (inr above) = rise-push kind x xs it rise
 
 -- ---- blocks
 
-pub items_of-append : {T : Type 0} (blocks more : List (List T)) → items_of (blocks ++ more) ≡ items_of blocks ++ items_of more
-items_of-append [] more = refl
-items_of-append (b ∷ blocks) more = ap (λ xs. b ++ xs) (items_of-append blocks more) ∙ sym (append_assoc b (items_of blocks) (items_of more))
-
-pub items_of-push : {T : Type 0} (blocks : List (List T)) (xs : List T) → items_of (blocks ++ xs ∷ []) ≡ items_of blocks ++ xs
-items_of-push blocks xs = items_of-append blocks (xs ∷ []) ∙ ap (λ ys. items_of blocks ++ ys) (append-nil xs)
-
 -- a block has at most 4,096 records
 pub most_in_block : {T : Type 0} (kind : Kind T) → IsLawful kind → (xs : List T) → AllByRecursion kind.fits xs → Fits (block_of kind) xs → length xs ≤ 4096
 most_in_block kind lawful xs fit fits = elim fits.small [
@@ -93,45 +86,3 @@ most_records kind lawful (b ∷ blocks) filled fit =
       most_records kind lawful blocks filled.2 (each-right kind.fits b (items_of blocks) fit),
       length-append b (items_of blocks),
     )
-
--- no block is empty
-pub last_is_some : {T : Type 0} (kind : Kind T) (blocks : List (List T)) (xs : List T) → AreFilled (block_of kind) (blocks ++ xs ∷ []) → xs ≢ []
-last_is_some kind [] xs filled = filled.0.some
-last_is_some kind (b ∷ blocks) xs filled = last_is_some kind blocks xs filled.2
-
-closed_by_first : {T : Type 0} (kind : Kind T) (b : List T) (blocks : List (List T)) (xs : List T) (it : T) → xs ≢ []
-    → IsClosed (block_of kind) b (blocks ++ xs ∷ []) → IsClosed (block_of kind) b (blocks ++ (xs ++ it ∷ []) ∷ [])
-closed_by_first kind b [] [] it some closed = absurd (some refl)
-closed_by_first kind b [] (x ∷ xs) it some closed = closed
-closed_by_first kind b ([] ∷ blocks) xs it some closed = tt
-closed_by_first kind b ((y ∷ c) ∷ blocks) xs it some closed = closed
-
-pub push-some : {T : Type 0} (xs : List T) (it : T) → xs ++ it ∷ [] ≢ []
-push-some [] it e = cc
-push-some (x ∷ xs) it e = cc
-
--- the last block grows by a record for which it has room
-pub filled-more : {T : Type 0} (kind : Kind T) (blocks : List (List T)) (xs : List T) (it : T) → AreFilled (block_of kind) (blocks ++ xs ∷ [])
-    → length (block_of kind (xs ++ it ∷ [])) ≤ 4096 → AreFilled (block_of kind) (blocks ++ (xs ++ it ∷ []) ∷ [])
-filled-more kind [] xs it filled room = (record { some = push-some xs it; small = inl room }, tt, tt)
-filled-more kind (b ∷ blocks) xs it filled room =
-    (filled.0, closed_by_first kind b blocks xs it (last_is_some kind blocks xs filled.2) filled.1, filled-more kind blocks xs it filled.2 room)
-
-alone-fits : {T : Type 0} (kind : Kind T) (it : T) → Fits (block_of kind) (it ∷ [])
-alone-fits kind it = record { some = push-some [] it; small = inr refl }
-
-pub alone-filled : {T : Type 0} (kind : Kind T) (it : T) → AreFilled (block_of kind) ((it ∷ []) ∷ [])
-alone-filled kind it = (alone-fits kind it, tt, tt)
-
-closed_still : {T : Type 0} (kind : Kind T) (b : List T) (blocks more : List (List T)) → blocks ≢ []
-    → IsClosed (block_of kind) b blocks → IsClosed (block_of kind) b (blocks ++ more)
-closed_still kind b [] more some closed = absurd (some refl)
-closed_still kind b ([] ∷ blocks) more some closed = tt
-closed_still kind b ((y ∷ c) ∷ blocks) more some closed = closed
-
--- a record for which the last block has no room begins another
-pub filled-new : {T : Type 0} (kind : Kind T) (blocks : List (List T)) (xs : List T) (it : T) → AreFilled (block_of kind) (blocks ++ xs ∷ [])
-    → 4096 < length (block_of kind (xs ++ it ∷ [])) → AreFilled (block_of kind) ((blocks ++ xs ∷ []) ++ (it ∷ []) ∷ [])
-filled-new kind [] xs it filled full = (filled.0, full, alone-filled kind it)
-filled-new kind (b ∷ blocks) xs it filled full =
-    (filled.0, closed_still kind b (blocks ++ xs ∷ []) ((it ∷ []) ∷ []) (push-some blocks xs) filled.1, filled-new kind blocks xs it filled.2 full)

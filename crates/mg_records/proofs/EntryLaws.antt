@@ -4,20 +4,13 @@ use Rattle.std.proofs.lemmas.List.{append-nil, length-append}
 use Rattle.std.proofs.lemmas.List.Elements.{All-cons, All-nil}
 use Rattle.mg_model.specs.declared.faults.Fault.{Fault}
 use Rattle.mg_model.specs.declared.faults.FileId.{FileId}
-use Rattle.mg_sealed.specs.Numbers.{AreKept, IsTooGreat}
+use Rattle.mg_sealed.proofs.NumberLaws.{not_too_great}
 use Rattle.mg_records.specs.File.{entry_bytes, index_bytes}
 use Rattle.mg_records.specs.Reading.{IsEntry, IsEntryUnfit, IsIndexFrom, IsIndexUnfit, IsStop, least_after}
 use Rattle.mg_records.specs.Writing.{AreNear}
 use Rattle.mg_records.specs.declared.index.Entry.{Entry}
-use Rattle.mg_records.proofs.BlockLaws.{each-right}
 use Rattle.mg_records.proofs.FieldLaws.{one_entry}
 use Rattle.mg_records.proofs.FileLaws.{length-entry_bytes}
-
--- numbers that are kept are not too great
-pub kept_not_great : (id : FileId) (at : ℕ) (numbers : List ℕ) (fault : Fault) → AreKept numbers → IsTooGreat id at numbers fault → ⊥
-kept_not_great id at numbers fault kept great =
-    let near = (each-right (λ n. n < 2 ^ 62) great.before (great.number ∷ great.after) (subst AreKept great.numbers_are kept)).0 in
-    absurd (omega (arith, near, great.great))
 
 -- each place of an index is below 2 ^ 62
 pub near_of : (least at : ℕ) (entries : List Entry) (end : ℕ) → IsIndexFrom least at entries end → AreNear entries
@@ -54,10 +47,10 @@ index_left least at (e ∷ front) place rest (d ∷ entries) end right index is 
 
 not_unfit : (id : FileId) (at least place : ℕ) (entry : Entry) (es : List Entry) (end : ℕ) (fault : Fault) → IsIndexFrom least place (entry ∷ es) end
     → IsEntryUnfit id at least place entry fault → ⊥
-not_unfit id at least place entry es end fault index (inl great) = kept_not_great id at (entry.first ∷ []) fault (index.1, tt) great
+not_unfit id at least place entry es end fault index (inl great) = not_too_great id at (entry.first ∷ []) fault (index.1, tt) great
 not_unfit id at least place entry es end fault index (inr (inl falls)) = absurd (omega (arith, index.0, falls.1))
 not_unfit id at least place entry es end fault index (inr (inr (inl great))) =
-    kept_not_great id at (entry.at ∷ []) fault (omega (arith, index.2, index.3), tt) great.2
+    not_too_great id at (entry.at ∷ []) fault (omega (arith, index.2, index.3), tt) great.2
 not_unfit id at least place entry es end fault index (inr (inr (inr apart))) = apart.3 index.2
 
 no_stop : (id : FileId) (at least place : ℕ) (rest : List ℕ) (left : List Entry) (fault : Fault) → rest ≡ index_bytes left → IsIndexFrom least place left at

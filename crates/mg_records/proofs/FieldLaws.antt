@@ -3,8 +3,8 @@ use Rattle.std.proofs.Common.{◌≡◌, ℕ, ◌-◌, ◌<◌, ◌^◌, List, [
 use Rattle.std.proofs.lemmas.List.{append-nil, length-append, drop_at, take_all}
 use Rattle.std.proofs.Math.Nat.{mod-eq_of_lt}
 use Rattle.mg_frame.specs.BigEndian.{big_endian, big_endian_value}
-use Rattle.mg_frame.proofs.BigEndianLaws.{front_number-big_endian, length-big_endian, big_endian_value-big_endian}
-use Rattle.mg_frame.proofs.SplitLaws.{split_written}
+use Rattle.mg_frame.proofs.BigEndianLaws.{length-big_endian, big_endian_value-big_endian}
+use Rattle.mg_frame.proofs.SplitLaws.{one_number}
 use Rattle.mg_sealed.specs.Foot.{said_blocks}
 use Rattle.mg_records.specs.File.{entry_bytes, foot_bytes}
 use Rattle.mg_records.specs.Reading.{IsEntry, IsInFields}
@@ -65,13 +65,6 @@ same_entry f g a b c =
     ∙ ap (λ n. let k : Entry = record { first = g.first; at = g.at; len = n } in k) c
 
 -- ---- one spelling is one value
-
--- a number at the front, and what follows it, are spelled in one way
-pub one_number : (width n m : ℕ) (rest more : List ℕ) → n < 256 ^ width → m < 256 ^ width → big_endian width n ++ rest ≡ big_endian width m ++ more → (n ≡ m) × (rest ≡ more)
-one_number width n m rest more fits fits' is =
-    let bytes = big_endian width n ++ rest in
-    let h = split_written width bytes more n m fits' is (sym (front_number-big_endian width n rest fits)) in
-    (h.0, sym (drop_at (big_endian width n) rest width (length-big_endian width n)) ∙ h.1)
 
 pub one_entry : (f g : Entry) (rest more : List ℕ) → IsEntry f → IsEntry g → entry_bytes f ++ rest ≡ entry_bytes g ++ more → (f ≡ g) × (rest ≡ more)
 one_entry f g rest more fits fits' is =

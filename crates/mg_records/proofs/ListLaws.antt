@@ -15,22 +15,9 @@ use Rattle.mg_records.specs.Record.{Kind, IsLawful}
 use Rattle.mg_records.proofs.BlockLaws.{block_of-append, each-left, each-right}
 use Rattle.mg_records.proofs.FileLaws.{length-index_from, length-index_bytes, length-foot_bytes}
 use Rattle.mg_records.proofs.LoadingLaws.{most_bytes}
+use Rattle.mg_records.proofs.ScanLaws.{same_records}
 
 -- ---- one list
-
--- some records have some bytes
-no_block_of_none : {T : Type 0} (kind : Kind T) → IsLawful kind → (x : T) (xs : List T) → kind.fits x → block_of kind (x ∷ xs) ≡ [] → ⊥
-no_block_of_none kind lawful x xs fit none = omega (arith, ap length none, length-append (kind.spelled x) (block_of kind xs), lawful.some_bytes x fit)
-
--- a block is that of one list of records
-same_block : {T : Type 0} (kind : Kind T) → IsLawful kind → (xs ys : List T) → AllByRecursion kind.fits xs → AllByRecursion kind.fits ys → block_of kind xs ≡ block_of kind ys → xs ≡ ys
-same_block kind lawful [] [] fit fit' same = refl
-same_block kind lawful [] (y ∷ ys) fit fit' same = absurd (no_block_of_none kind lawful y ys fit'.0 (sym same))
-same_block kind lawful (x ∷ xs) [] fit fit' same = absurd (no_block_of_none kind lawful x xs fit.0 same)
-same_block kind lawful (x ∷ xs) (y ∷ ys) fit fit' same =
-    let first = lawful.one_spelling x y (block_of kind xs) (block_of kind ys) fit.0 fit'.0 same in
-    let rest = same_block kind lawful xs ys fit.1 fit'.1 first.1 in
-    cc (first.0, rest)
 
 same_blocks : {T : Type 0} (kind : Kind T) → IsLawful kind → (blocks others : List (List T)) → AllByRecursion kind.fits (items_of blocks) → AllByRecursion kind.fits (items_of others)
     → map (block_of kind) blocks ≡ map (block_of kind) others → blocks ≡ others
@@ -40,7 +27,7 @@ same_blocks kind lawful (b ∷ blocks) [] fit fit' same = absurd cc
 same_blocks kind lawful (b ∷ blocks) (c ∷ others) fit fit' same =
     let body : block_of kind b ≡ block_of kind c = cc in
     let bodies : map (block_of kind) blocks ≡ map (block_of kind) others = cc in
-    let first = same_block kind lawful b c (each-left kind.fits b (items_of blocks) fit) (each-left kind.fits c (items_of others) fit') body in
+    let first = same_records kind lawful c b (each-left kind.fits c (items_of others) fit') (each-left kind.fits b (items_of blocks) fit) (sym body) in
     let rest = same_blocks kind lawful blocks others (each-right kind.fits b (items_of blocks) fit) (each-right kind.fits c (items_of others) fit') bodies in
     cc (first, rest)
 

@@ -19,7 +19,8 @@ use Rattle.mg_records.specs.Refusals.{IsApart, IsFootRefused, IsIndexRefused, Is
 use Rattle.mg_records.specs.Writing.{Filed, Holds}
 use Rattle.mg_records.specs.declared.foot.Foot.{Foot}
 use Rattle.mg_records.specs.declared.index.Entry.{Entry}
-use Rattle.mg_records.proofs.EntryLaws.{index_not_unfit, kept_not_great, one_index}
+use Rattle.mg_sealed.proofs.NumberLaws.{not_too_great}
+use Rattle.mg_records.proofs.EntryLaws.{index_not_unfit, one_index}
 use Rattle.mg_records.proofs.FieldLaws.{one_foot}
 use Rattle.mg_records.proofs.FileLaws.{length-index_from}
 use Rattle.mg_records.proofs.LoadingLaws.{file_ends, foot_of_is_foot, index_from_is_index, reads_foot, reads_index}
@@ -116,7 +117,7 @@ numbers_kept foot is = (is.records, (is.sum, (is.first, (is.last, (is.index, tt)
 
 no_foot_fault : (id : FileId) (at : ℕ) (foot : Foot) (fault : Fault) → IsFoot foot → IsFootFault id at foot fault → ⊥
 no_foot_fault id at foot fault is (inl none) = absurd (omega (arith, is.some_records, none.0))
-no_foot_fault id at foot fault is (inr (inl great)) = kept_not_great id at (foot_numbers foot) fault (numbers_kept foot is) great.1
+no_foot_fault id at foot fault is (inr (inl great)) = not_too_great id at (foot_numbers foot) fault (numbers_kept foot is) great.1
 no_foot_fault id at foot fault is (inr (inr none)) = absurd (omega (arith, is.some_blocks, none.2))
 
 -- the body of a foot is not refused

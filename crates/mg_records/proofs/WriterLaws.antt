@@ -13,7 +13,8 @@ use Rattle.mg_records.specs.Writing.{Filing, HasRecords, Holds, IsPut, MayFollow
 use Rattle.mg_records.specs.declared.index.Entry.{Entry}
 use Rattle.mg_records.specs.declared.foot.Foot.{Foot}
 use Rattle.mg_sealed.specs.declared.reading.SealedFile.{SealedFile}
-use Rattle.mg_records.proofs.BlockLaws.{each-right, each-append, block_of-push, count_in_bytes, sizes_in_count, last_number_after-push, AreRising-push, items_of-push, most_records, last_is_some, filled-more, filled-new, alone-filled, push-some}
+use Rattle.mg_records.proofs.BlockLaws.{each-right, each-append, block_of-push, count_in_bytes, sizes_in_count, last_number_after-push, AreRising-push, most_records}
+use Rattle.mg_sealed.proofs.FilledLaws.{alone-filled, filled-closed, filled-more, items_of-push, last_is_some, push-some}
 use Rattle.mg_records.proofs.FileLaws.{length-index_from, index_from-push, length-blocks, end_of-push}
 
 -- the block in writing has room for this record
@@ -51,11 +52,12 @@ filled_here : {T : Type 0} (kind : Kind T) → IsLawful kind → (full : List (L
 filled_here {T} kind lawful full last_block it fit (inl none) room =
     let P : List (List T) → Type 0 = λ blocks. AreFilled (block_of kind) (blocks ++ (last_block ++ it ∷ []) ∷ []) in
     let Q : List T → Type 0 = λ xs. AreFilled (block_of kind) ((xs ++ it ∷ []) ∷ []) in
-    subst P (sym none.0) (subst Q (sym none.1) (alone-filled kind it))
+    subst P (sym none.0) (subst Q (sym none.1) (alone-filled (block_of kind) it))
 filled_here kind lawful full last_block it fit (inr filled) (inl empty) =
-    absurd (omega (arith, ap length empty, some_bytes kind lawful last_block fit (last_is_some kind full last_block filled)))
+    absurd (omega (arith, ap length empty, some_bytes kind lawful last_block fit (last_is_some (block_of kind) full last_block filled)))
 filled_here kind lawful full last_block it fit (inr filled) (inr room) =
-    filled-more kind full last_block it filled (omega (arith, room, length-push kind last_block it))
+    filled-more (block_of kind) full last_block it filled
+    (record { some = push-some last_block it; small = inl (omega (arith, room, length-push kind last_block it)) })
 
 -- there is room where the block is empty, or stays within its limit
 pub ready_here : {T D : Type 0} (kind : Kind T) → IsLawful kind → (drafted : D → Option (List ℕ)) (writer : Filing D) (it : T) (records : List T)
@@ -122,7 +124,7 @@ ready_new {T} kind drafted old new it records has some full closing =
       full = has.full ++ has.last_block ∷ [];
       last_block = [];
       all = has.all ∙ sym (items_of-push has.full has.last_block) ∙ sym (append-nil (items_of (has.full ++ has.last_block ∷ [])));
-      filled = filled-new kind has.full has.last_block it filled over;
+      filled = filled-closed (block_of kind) has.full has.last_block it filled over;
       fit = has.fit;
       rise = has.rise;
       frames = frames_closed kind drafted new.frames old.block has.full has.last_block has.block (closing.frames (map (block_of kind) has.full) has.frames);

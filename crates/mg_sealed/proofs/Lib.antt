@@ -1,4 +1,5 @@
 pub mod AnswerLaws
+pub mod FilledLaws
 pub mod FillingLaws
 pub mod FootLaws
 pub mod ListLaws

@@ -1,11 +1,11 @@
 -- A piece of a file that is enough of it is judged as what is left of the file.
 use Rattle.std.proofs.Common.{◌≡◌, ℕ, ◌+◌, ◌<◌, ◌≤◌, ◌⊎◌, List, ◌++◌, length, take, drop, refl, sym, ap, ◌∙◌, arith, inl, inr, ltb, eqb, true, false, Bool, cond, Result, Ok, Err, MatchResult}
-use Rattle.std.proofs.lemmas.List.{take-append-le, drop-append-le, take-append-drop, length-append, length-drop, drop-drop, take_all, length-take-le}
+use Rattle.std.proofs.lemmas.List.{take-append-le, drop-append-le, take-append-drop, length-append, length-drop, take_all, length-take-le}
 use Rattle.std.proofs.lemmas.Bool.{lt-ltb, le-ltb, eq-eqb, ne_eqb, cases_lt, cases_eq}
-use Rattle.std.specs.Prelude.{slice_range}
 use Rattle.mg_frame.specs.BigEndian.{big_endian_value}
 use Rattle.mg_frame.specs.Frame.{digest, said_length, said_number, said_digest, true_digest, compared, judged, taken}
 use Rattle.mg_frame.specs.declared.frame.Taken.TheVariants.{Whole, End, Short, Number, Torn}
+use Rattle.mg_frame.proofs.FrameLaws.{slice_body}
 use Rattle.mg_model.specs.declared.faults.Fault.{Fault}
 use Rattle.mg_model.specs.declared.faults.Fault.TheVariants.{Damaged}
 use Rattle.mg_model.specs.declared.faults.FileId.{FileId}
@@ -39,9 +39,6 @@ through f false false true b4 b5 x1 x2 x3 x4 x5 x6 = refl
 through f false false false true true x1 x2 x3 x4 x5 x6 = refl
 through f false false false true false x1 x2 x3 x4 x5 x6 = refl
 through f false false false false b5 x1 x2 x3 x4 x5 x6 = refl
-
-pub slice_body : (bytes : List ℕ) (base size : ℕ) → slice_range bytes (base + 12) (base + 12 + size) ≡ take size (drop 12 (drop base bytes))
-slice_body bytes base size = ap (λ k. take k (drop (base + 12) bytes)) (omega arith) ∙ ap (take size) (sym (drop-drop 12 base bytes))
 
 taken_by_length : (id : FileId) (at len number base : ℕ) (bytes : List ℕ)
     → body_or_damage id at len bytes (taken bytes base number) ≡ by_length id at len (drop base bytes) number

@@ -1,5 +1,5 @@
 -- What is read of a sealed file: its length is judged once, and then each frame at its place.
-use Rattle.std.specs.Prelude.{◌≡◌, ℕ, ◌+◌, ◌^◌, ◌<◌, ◌≤◌, ◌⊎◌, ◌==◌, List, length, take, slice_range, nat_lt, if◌then◌else◌, Result, Ok, Err}
+use Rattle.std.specs.Prelude.{◌≡◌, ℕ, ◌+◌, ◌<◌, ◌≤◌, ◌⊎◌, ◌==◌, List, length, take, slice_range, nat_lt, if◌then◌else◌, Result, Ok, Err}
 use Rattle.mg_frame.specs.Frame.{taken, said_length}
 use Rattle.mg_frame.specs.declared.frame.Taken.{Taken}
 use Rattle.mg_frame.specs.declared.frame.Taken.TheVariants.{Whole, End, Short, Number, Torn}

@@ -20,7 +20,7 @@ use Rattle.mg_table.specs.Reading.{read_at, AreRead, HasBody, IsBlockRefused, Is
 use Rattle.mg_table.specs.declared.entry.Entry.{Entry}
 use Rattle.mg_table.specs.declared.index.BlockPlace.{BlockPlace}
 use Rattle.mg_table.specs.declared.table.Table.{Table}
-use Rattle.mg_table.proofs.FilledLaws.{items_of-push}
+use Rattle.mg_sealed.proofs.FilledLaws.{items_of-push}
 use Rattle.mg_table.proofs.ListingLaws.{Lists, no_pair}
 use Rattle.mg_table.proofs.RefusalLaws.{under_both, under_then, Under}
 

@@ -17,7 +17,7 @@ use Rattle.mg_table.specs.declared.entry.Entry.{Entry}
 use Rattle.mg_table.specs.declared.foot.Foot.{Foot}
 use Rattle.mg_table.specs.declared.index.BlockPlace.{BlockPlace}
 use Rattle.mg_table.specs.declared.table.Table.{Table}
-use Rattle.mg_table.proofs.FilledLaws.{items_of-push}
+use Rattle.mg_sealed.proofs.FilledLaws.{items_of-push}
 use Rattle.mg_table.proofs.FilterLaws.{IsFilterOf-folded}
 use Rattle.mg_table.proofs.IndexLaws.{length-frames, place_behind, places_from-push, total}
 use Rattle.mg_table.proofs.PlaceLaws.{foot_is, place_is}

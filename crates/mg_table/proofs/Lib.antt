@@ -1,6 +1,5 @@
 pub mod CauseLaws
 pub mod EntryLaws
-pub mod FilledLaws
 pub mod FilterLaws
 pub mod FindingLaws
 pub mod FinishLaws

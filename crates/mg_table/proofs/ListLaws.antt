@@ -1,13 +1,14 @@
 -- Bytes are the table of one list of entries over one interval.
-use Rattle.std.proofs.Common.{◌≡◌, ℕ, ◌+◌, ◌<◌, ◌^◌, Bool, List, [], ◌∷◌, ◌++◌, length, map, drop, refl, sym, ap, ◌∙◌, arith, append_assoc, Some, Ok}
-use Rattle.std.proofs.lemmas.List.{append_cancel_left, drop_at, length-append, length-map, map-append}
+use Rattle.std.proofs.Common.{◌≡◌, ℕ, ◌+◌, ◌<◌, ◌^◌, Bool, List, [], ◌∷◌, ◌++◌, length, map, drop, refl, sym, ap, ◌∙◌, arith, append_assoc, Ok}
+use Rattle.std.proofs.lemmas.List.{drop_at, length-append, length-map, map-append}
 use Rattle.std.proofs.lemmas.List.Elements.{All-append, All-cons, All-head, All-nil, All-tail}
 use Rattle.std.specs.List.{All}
 use Rattle.mg_block.specs.View.{pairs_of}
 use Rattle.mg_block.specs.declared.pair.Pair.{Pair}
 use Rattle.mg_block.proofs.Spelling.{pairs_of-block_of}
-use Rattle.mg_frame.specs.BigEndian.{big_endian, front_number}
-use Rattle.mg_frame.proofs.BigEndianLaws.{front_number-big_endian, length-big_endian}
+use Rattle.mg_frame.specs.BigEndian.{big_endian}
+use Rattle.mg_frame.proofs.BigEndianLaws.{length-big_endian}
+use Rattle.mg_frame.proofs.SplitLaws.{one_number}
 use Rattle.mg_model.specs.declared.documents.Key.{Key}
 use Rattle.mg_sealed.specs.Filling.{items_of}
 use Rattle.mg_sealed.specs.Lists.{FitFrames}
@@ -101,13 +102,6 @@ same_entries (entry ∷ entries) (other ∷ others) each each' same =
 
 -- ---- the interval
 
--- bytes begin with one number of a width
-same_field : (width n m : ℕ) (rest rest' : List ℕ) → n < 256 ^ width → m < 256 ^ width → big_endian width n ++ rest ≡ big_endian width m ++ rest' → (n ≡ m) × (rest ≡ rest')
-same_field width n m rest rest' fits fits' same =
-    let read : Some n ≡ Some m = sym (front_number-big_endian width n rest fits) ∙ ap (front_number width) same ∙ front_number-big_endian width m rest' fits' in
-    let number : n ≡ m = cc in
-    (number, append_cancel_left (big_endian width m) rest rest' (ap (λ k. big_endian width k ++ rest) (sym number) ∙ same))
-
 length-counts : (foot : Foot) → length (counts_bytes foot) ≡ 17
 length-counts foot =
     omega (
@@ -127,8 +121,8 @@ span_follows foot =
 
 same_span : (foot other : Foot) → IsFoot foot → IsFoot other → foot_bytes foot ≡ foot_bytes other → (foot.lo ≡ other.lo) × (foot.hi ≡ other.hi)
 same_span foot other is is' same =
-    let low = same_field 8 foot.lo other.lo _ _ (omega (arith, is.lo)) (omega (arith, is'.lo)) (sym (span_follows foot) ∙ ap (drop 17) same ∙ span_follows other) in
-    let high = same_field 8 foot.hi other.hi _ _ (omega (arith, is.hi)) (omega (arith, is'.hi)) low.1 in
+    let low = one_number 8 foot.lo other.lo _ _ (omega (arith, is.lo)) (omega (arith, is'.lo)) (sym (span_follows foot) ∙ ap (drop 17) same ∙ span_follows other) in
+    let high = one_number 8 foot.hi other.hi _ _ (omega (arith, is.hi)) (omega (arith, is'.hi)) low.1 in
     (low.0, high.0)
 
 -- ---- a table

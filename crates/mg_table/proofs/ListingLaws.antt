@@ -19,7 +19,7 @@ use Rattle.mg_table.specs.declared.entry.Entry.{Entry}
 use Rattle.mg_table.specs.Reading.{AreRead}
 use Rattle.mg_table.specs.Table.{Stands}
 use Rattle.mg_table.specs.declared.table.Table.{Table}
-use Rattle.mg_table.proofs.FilledLaws.{items_of-push}
+use Rattle.mg_sealed.proofs.FilledLaws.{items_of-push}
 use Rattle.mg_table.proofs.LoadingLaws.{length-places_from}
 use Rattle.mg_table.proofs.ReadingLaws.{All-behind}
 use Rattle.mg_sealed.specs.Filling.{items_of}

@@ -1,11 +1,6 @@
 -- A list of entries over an interval has one table.
-use Rattle.std.proofs.Common.{◌≡◌, ℕ, ◌+◌, ◌*◌, ◌/◌, ◌%◌, ◌<◌, ◌≤◌, ◌^◌, inl, inr, suc, eqb, List, [], ◌∷◌, ◌++◌, length, map, get_or, replicate, refl, sym, ap, ◌∙◌, subst, arith, pow-suc}
-use Rattle.std.proofs.Math.Nat.{pow-le-pow_right}
-use Rattle.std.proofs.lemmas.Bool.{cases_eq, cases_lt, eq-eqb, eqb-true}
-use Rattle.std.proofs.lemmas.Grind.{same_number_lists}
-use Rattle.std.proofs.lemmas.List.{drop_at, length-append, length-replicate, map-append, take_at}
-use Rattle.std.proofs.lemmas.Nat.Bits.{bit_at-lt, same_from_bits_below}
-use Rattle.std.specs.Int.{bit_at}
+use Rattle.std.proofs.Common.{◌≡◌, ℕ, ◌+◌, List, [], ◌∷◌, ◌++◌, length, map, refl, sym, ap, ◌∙◌, subst, arith}
+use Rattle.std.proofs.lemmas.List.{drop_at, length-append, map-append, take_at}
 use Rattle.std.specs.List.{concat, enumerate_from}
 use Rattle.mg_block.specs.Block.{block_of, items_after}
 use Rattle.mg_block.specs.View.{last_pair_after}

@@ -5,35 +5,27 @@ use Rattle.mg_block.specs.Block.{block_of, Follows, Precedes}
 use Rattle.mg_block.specs.View.{last_pair}
 use Rattle.mg_block.specs.declared.pair.Pair.{Pair}
 use Rattle.mg_bloom.specs.Bloom.{key_words, AddsWords}
-use Rattle.mg_sealed.specs.Filling.{Fits, AreFilled, items_of}
+use Rattle.mg_sealed.specs.Filling.{AreFilled, items_of}
 use Rattle.mg_table.specs.Entries.{block_body, first_key, pair_of, payload_of, IsEntry}
 use Rattle.mg_table.specs.Table.{hashed_keys}
 use Rattle.mg_table.specs.Writing.{ClosedBlocks, Fills, HasBlocks, IsReady, IsWriting, Writing}
 use Rattle.mg_table.specs.declared.entry.Entry.{Entry}
 use Rattle.mg_table.proofs.EntryLaws.{last_of-behind, sizes_of-push, AreEntries-push}
 use Rattle.mg_table.proofs.FilterLaws.{HasBitsOf-put}
-use Rattle.mg_table.proofs.FilledLaws.{filled-more, filled-closed, items_of-push}
-
--- no entry makes a block empty
-some-push : (entries : List Entry) (entry : Entry) → entries ++ entry ∷ [] ≢ []
-some-push [] entry none = absurd cc
-some-push (first ∷ entries) entry none = absurd cc
-
-fits-one : (entry : Entry) → Fits block_body (entry ∷ [])
-fits-one entry = record { some = λ none. absurd cc; small = inr refl }
+use Rattle.mg_sealed.proofs.FilledLaws.{alone-filled, filled-closed, filled-more, items_of-push, push-some}
 
 -- ---- room in the open block
 
 filled-stays : (blocks : List (List Entry)) (last : List Entry) (entry : Entry) → Fills blocks last
     → (last ≢ [] → length (block_body (last ++ entry ∷ [])) ≤ 4096) → AreFilled block_body (blocks ++ (last ++ entry ∷ []) ∷ [])
 filled-stays blocks [] entry fills fits = elim fills [
-  | inl none ↦ rw none.0 (fits-one entry, tt, tt)
+  | inl none ↦ rw none.0 (alone-filled block_body entry)
   | inr some ↦ absurd (some.0 refl)
 ]
 filled-stays blocks (first ∷ last) entry fills fits = elim fills [
   | inl none ↦ absurd (let e = none.1 in cc)
-  | inr some ↦ filled-more block_body blocks first last entry some.1 (record {
-    some = some-push (first ∷ last) entry;
+  | inr some ↦ filled-more block_body blocks (first ∷ last) entry some.1 (record {
+    some = push-some (first ∷ last) entry;
     small = inl (fits some.0);
   })
 ]
@@ -68,7 +60,7 @@ ready-closed drafted closed old block blocks last entry has none is begun fills 
       kept = inl refl;
       filled = elim fills [
         | inl nothing ↦ absurd (begun (is ∙ ap (map pair_of) nothing.1))
-        | inr some ↦ filled-closed block_body blocks last entry some.1 more (fits-one entry)
+        | inr some ↦ filled-closed block_body blocks last entry some.1 more
       ];
     }
 
@@ -123,6 +115,6 @@ pushed drafted old new block entry entries blocks last is ready pushes fits key 
         sizes = pushes.sizes ∙ ap (λ n. n + entry.size) is.sizes ∙ sym (sizes_of-push entries entry);
         rising = AreEntries-push entries entry is.rising fits follows;
         parts = sym (append_assoc (items_of ready.now) ready.opened (entry ∷ [])) ∙ ap (λ es. es ++ entry ∷ []) (ready.same ∙ is.parts);
-        filled = inr (some-push ready.opened entry, ready.filled);
+        filled = inr (push-some ready.opened entry, ready.filled);
       },
     )

@@ -1,4 +1,4 @@
-use Rattle.std.proofs.Common.{List, ℕ, suc, take, drop, slice_index_or, refl, sym, subst, arith}
+use Rattle.std.proofs.Common.{suc, take, drop, slice_index_or, refl, sym, subst, arith}
 use Rattle.std.proofs.lemmas.List.{take_all, take_more}
 use Rattle.std.proofs.Math.Seq.{split_at}
 use Rattle.mg_sealed.specs.Numbers.{AreKept}

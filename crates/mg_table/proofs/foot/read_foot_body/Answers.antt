@@ -2,7 +2,8 @@ use Rattle.std.proofs.Common.{◌≡◌, subst}
 use Rattle.mg_sealed.specs.Numbers.{AreKept}
 use Rattle.mg_table.specs.Foot.{foot_numbers}
 use Rattle.mg_table.specs.declared.foot.Foot.{Foot}
-use Rattle.mg_table.proofs.PlaceLaws.{foot_fits, foot_kept, not_too_great}
+use Rattle.mg_sealed.proofs.NumberLaws.{not_too_great}
+use Rattle.mg_table.proofs.PlaceLaws.{foot_fits, foot_kept}
 use Rattle.mg_table.proofs.foot.read_foot_body.Goals as goal
 
 pub returns-in_err-check_numbers-clause-written : goal.returns-in_err-check_numbers-clause-written
