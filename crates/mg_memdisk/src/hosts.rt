@@ -109,7 +109,8 @@ impl MemHost {
     pub fn put(&mut self, n: u16, vol: MemVolume) -> Result<(), DiskError>
         requires exists { IsVolume n }
         requires here { (mem_state self.old).out n ≡ false }
-        ensures { Puts n vol (mem_state self.old) (mem_state self.new) }
+        ensures put { Puts n vol (mem_state self.old) (mem_state self.new) }
+        ensures memory { IsErrOf result DiskError.Failed → ⊥ }
     {
         let at = place(n);
         self.slots[at].inside = Some(vol);

@@ -197,3 +197,22 @@ fn a_crash_leaves_each_allowed_image(rt: HostRuntime) -> Result<(), Fail> {
     }
     Ok(())
 }
+
+// A log whose making failed is not there, and a crash leaves it empty or not at all.
+#[test]
+fn a_crash_may_leave_a_name_whose_change_failed(rt: HostRuntime) -> Result<(), Fail> {
+    let alloc = rt.alloc();
+    let log = Name { kind: 5, number: 1 };
+    // the second call makes the log
+    let mut volume = MemVolume::new(alloc, [2].to_vec(alloc)?);
+    assert_eq!(rt;
+        store(alloc, &mut volume, log, b"a", b"b"),
+        Err(DiskError::Failed)
+    );
+    assert_eq!(rt; len_of(alloc, &mut volume, log), Ok(None));
+    let mut left = volume.crash(alloc, &[])?;
+    assert_eq!(rt; len_of(alloc, &mut left, log), Ok(None));
+    let mut left = volume.crash(alloc, &[1])?;
+    assert_eq!(rt; len_of(alloc, &mut left, log), Ok(Some(0)));
+    Ok(())
+}
