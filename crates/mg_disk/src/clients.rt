@@ -44,6 +44,8 @@ pub fn append_behind<V: Volume>(
         → EachImage (V.view volume.new) (Begins (V.log_name log.old) kept) }
     ensures any_moment { IsTrue V.tells → (kept : List ℕ) → EachImage (V.view volume.old) (Begins (V.log_name log.old) kept)
         → LeavesOnly (V.view volume.old) (V.view volume.new) (Begins (V.log_name log.old) kept) }
+    ensures contents { IsTrue V.tells → OnOk result ((found : List ℕ) × ((V.view volume.old).contents (V.log_name log.old) ≡ Some found)
+        × ((V.view volume.new).contents (V.log_name log.old) ≡ Some (found ++ bytes.now))) }
     ensures named { V.log_name log.new ≡ V.log_name log.old }
     ensures open { IsTrue (V.in_writing volume.new log.new) }
     ensures cause { HasCause DiskError.Failed (V.faults volume.old) (V.faults volume.new) result }
