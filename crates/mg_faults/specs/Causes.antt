@@ -6,6 +6,10 @@ use Rattle.std.specs.Result.{IsErrOf}
 abbrev pub last_count : ℕ
 last_count = 2 ^ 64 - 1
 
+-- a count as its type keeps it, which is never above the last number
+abbrev pub kept_count : ℕ → ℕ
+kept_count count = min count last_count
+
 -- a count that has risen by so much, but for its last number
 abbrev pub raised : ℕ → ℕ → ℕ
 raised before by = min (before + by) last_count

@@ -1,4 +1,5 @@
-//! A count of faults, and what it says of an answer that something outside failed.
+//! A count of faults, and what it says of an answer that something outside failed. Beside it [`CallCounter`], with which
+//! objects in memory count their calls and fail by number.
 //!
 //! An object that stands for the outside (a source, a sink, a device) keeps such a count and raises it at
 //! each failure. Code that is generic over the object cannot raise the count, so a contract that allows the
@@ -8,6 +9,9 @@
 ghost use Rattle.std.specs.Prelude.{◌≡◌, ◌≤◌, ◌-◌};
 ghost use Rattle.mg_faults.specs.Causes.{raised};
 
+mod calls;
+
+pub use calls::CallCounter;
 use std::marker::Model;
 
 /// A count of faults. It never falls, and stays at the last number of its type.
@@ -58,19 +62,4 @@ impl FaultCount {
 }
 
 #[cfg(test)]
-mod tests {
-    use super::*;
-
-    #[test]
-    fn a_count_rises_with_another(rt: HostRuntime) {
-        let mut volume = FaultCount::new();
-        let before = volume;
-        volume.rise();
-        volume.rise();
-        let mut host = FaultCount::new();
-        host.rise();
-        host.rise_by(before, volume);
-        assert_eq!(rt; volume.get(), 2);
-        assert_eq!(rt; host.get(), 3);
-    }
-}
+mod tests;
