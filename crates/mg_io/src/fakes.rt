@@ -1,15 +1,16 @@
 //! A source and a sink in memory, which fail where they are told to.
 
-ghost use Rattle.std.specs.Prelude.{◌≡◌, ◌≤◌, ◌<◌, ◌↔◌, [], min, take, length, Some, IfOk, IsTrue};
+ghost use Rattle.std.specs.Prelude.{◌≡◌, ◌≤◌, ◌<◌, ◌↔◌, [], min, take, length, Some, IfOk, IsTrue, OnOk};
 ghost use Rattle.std.specs.Result.{IsErrOf};
 ghost use Rattle.std.specs.Io.{ReadsAtMost, WritesAtMost};
 ghost use Rattle.std.specs.Io.KnownBytes.{ReadConsumes, WriteAppends};
-ghost use Rattle.mg_faults.specs.Causes.{HasCause, raised};
-ghost use Rattle.mg_io.specs.Fakes.{is_failing};
+ghost use Rattle.mg_faults.specs.Causes.{HasCause, kept_count};
+ghost use Rattle.mg_faults.specs.Calls.{no_calls, next_fails, after_call};
+ghost use Rattle.mg_io.specs.Fakes.{read_answer};
 
 use crate::errors::IoError;
 use crate::traits::{Sink, Source};
-use mg_faults::FaultCount;
+use mg_faults::CallCounter;
 use std::alloc::Global;
 use std::marker::Model;
 
@@ -20,9 +21,7 @@ pub struct MemSource {
     bytes: Vec<u8>,
     given: usize,
     step: usize,
-    failing: Vec<u64>,
-    calls: u64,
-    faults: FaultCount,
+    calls: CallCounter,
 }
 
 impl Model for MemSource {
@@ -31,7 +30,7 @@ impl Model for MemSource {
 
     ghost Value = { SourceState };
 
-    ghost view = { λ s. record { left = drop s.given s.bytes.items; step = s.step; failing = s.failing.items; calls = s.calls; faults = s.faults } };
+    ghost view = { λ s. record { left = drop s.given s.bytes.items; step = s.step; calls = s.calls } };
 
     ghost invariant = { λ s. (s.given ≤ length s.bytes.items) × (1 ≤ s.step) };
 }
@@ -39,24 +38,15 @@ impl Model for MemSource {
 impl MemSource {
     pub fn new(bytes: Vec<u8>, step: usize, failing: Vec<u64>) -> MemSource
         requires { 1 ≤ step }
-        ensures { result ≡ record { left = bytes.items; step = step; failing = failing.items; calls = 0; faults = 0 } }
+        ensures { result ≡ record { left = bytes.items; step = step; calls = no_calls failing.items } }
     {
         MemSource {
             bytes,
             given: 0,
             step,
-            failing,
-            calls: 0,
-            faults: FaultCount::new(),
+            calls: CallCounter::new(failing),
         }
     }
-}
-
-/// Whether the call with this number fails.
-fn is_listed(failing: &[u64], number: u64) -> bool
-    ensures { result ≡ is_failing failing.now number }
-{
-    failing.contains(&number)
 }
 
 /// Copies as many bytes as fit, and as the limit allows.
@@ -72,20 +62,24 @@ fn copy_front(from: &[u8], limit: usize, into: &mut [u8]) -> usize
 impl Source for MemSource {
     ghost left = { λ s. Some s.left };
 
-    ghost faults = { λ s. s.faults };
+    ghost use Rattle.mg_faults.proofs.CallLaws.{kept_is_bounded};
+
+    ghost faults = { λ s. kept_count s.calls.faults };
+
+    ghost bounded = { λ s. kept_is_bounded s.calls.faults };
 
     fn read(&mut self, buf: &mut [u8]) -> Result<usize, IoError>
         ensures bound { ReadsAtMost result buf.new }
         ensures bytes { ReadConsumes (Some self.old.left) (Some self.new.left) result buf.new }
-        ensures cause { HasCause IoError.Failed self.old.faults self.new.faults result }
+        ensures cause { HasCause IoError.Failed (kept_count self.old.calls.faults) (kept_count self.new.calls.faults) result }
+        ensures kept { OnOk result (kept_count self.new.calls.faults ≡ kept_count self.old.calls.faults) }
 
         // It fails exactly where it is told to, and else gives all that it may.
-        ensures fails { IsErrOf result IoError.Failed ↔ IsTrue (is_failing self.old.failing (raised self.old.calls 1)) }
-        ensures count { IfOk result (λ count. count ≡ min (min (length self.old.left) self.old.step) (length buf.old)) }
+        ensures exact { result ≡ read_answer self.old (length buf.old) }
+        ensures counted { self.new.calls ≡ after_call self.old.calls }
+        ensures step { self.new.step ≡ self.old.step }
     {
-        self.calls = self.calls.saturating_add(1);
-        if is_listed(&self.failing, self.calls) {
-            self.faults.rise();
+        if self.calls.count() {
             return Err(IoError::Failed);
         }
         let count = copy_front(&self.bytes[self.given..], self.step, buf);
@@ -98,9 +92,7 @@ impl Source for MemSource {
 #[derive(Debug, Drop)]
 pub struct MemSink {
     written: Vec<u8>,
-    failing: Vec<u64>,
-    calls: u64,
-    faults: FaultCount,
+    calls: CallCounter,
 }
 
 impl Model for MemSink {
@@ -108,19 +100,17 @@ impl Model for MemSink {
 
     ghost Value = { SinkState };
 
-    ghost view = { λ s. record { written = s.written.items; failing = s.failing.items; calls = s.calls; faults = s.faults } };
+    ghost view = { λ s. record { written = s.written.items; calls = s.calls } };
 }
 
 impl MemSink {
     /// Takes no memory of its own until something is written.
     pub fn new(alloc: Global, failing: Vec<u64>) -> MemSink
-        ensures { result ≡ record { written = []; failing = failing.items; calls = 0; faults = 0 } }
+        ensures { result ≡ record { written = []; calls = no_calls failing.items } }
     {
         MemSink {
             written: Vec::new(alloc),
-            failing,
-            calls: 0,
-            faults: FaultCount::new(),
+            calls: CallCounter::new(failing),
         }
     }
 
@@ -135,21 +125,25 @@ impl MemSink {
 impl Sink for MemSink {
     ghost written = { λ s. Some s.written };
 
-    ghost faults = { λ s. s.faults };
+    ghost use Rattle.mg_faults.proofs.CallLaws.{kept_is_bounded};
+
+    ghost faults = { λ s. kept_count s.calls.faults };
+
+    ghost bounded = { λ s. kept_is_bounded s.calls.faults };
 
     fn write(&mut self, bytes: &[u8]) -> Result<usize, IoError>
         ensures bound { WritesAtMost result bytes.now }
         ensures some { 0 < length bytes.now → IfOk result (λ count. 1 ≤ count) }
         ensures bytes { WriteAppends (Some self.old.written) (Some self.new.written) result bytes.now }
-        ensures cause { HasCause IoError.Failed self.old.faults self.new.faults result }
+        ensures cause { HasCause IoError.Failed (kept_count self.old.calls.faults) (kept_count self.new.calls.faults) result }
+        ensures kept { OnOk result (kept_count self.new.calls.faults ≡ kept_count self.old.calls.faults) }
 
         // It fails exactly where it is told to, and else takes the whole piece.
-        ensures fails { IsErrOf result IoError.Failed ↔ IsTrue (is_failing self.old.failing (raised self.old.calls 1)) }
+        ensures fails { IsErrOf result IoError.Failed ↔ IsTrue (next_fails self.old.calls) }
         ensures count { IfOk result (λ count. count ≡ length bytes.now) }
+        ensures counted { self.new.calls ≡ after_call self.old.calls }
     {
-        self.calls = self.calls.saturating_add(1);
-        if is_listed(&self.failing, self.calls) {
-            self.faults.rise();
+        if self.calls.count() {
             return Err(IoError::Failed);
         }
         self.written.extend_from_slice(bytes)?;

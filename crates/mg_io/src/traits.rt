@@ -1,9 +1,9 @@
 //! The source and the sink, by the bytes that they have and by their counts of faults.
 
-ghost use Rattle.std.specs.Prelude.{◌≤◌, ◌<◌, ℕ, List, Option, length, IfOk};
+ghost use Rattle.std.specs.Prelude.{◌≡◌, ◌≤◌, ◌<◌, ℕ, List, Option, length, IfOk, OnOk};
 ghost use Rattle.std.specs.Io.{ReadsAtMost, WritesAtMost};
 ghost use Rattle.std.specs.Io.KnownBytes.{ReadConsumes, WriteAppends};
-ghost use Rattle.mg_faults.specs.Causes.{HasCause};
+ghost use Rattle.mg_faults.specs.Causes.{HasCause, last_count};
 
 use crate::errors::IoError;
 
@@ -20,7 +20,11 @@ pub trait Source {
     fn read(&mut self, buf: &mut [u8]) -> Result<usize, IoError>
         ensures bound { ReadsAtMost result buf.new }
         ensures bytes { ReadConsumes (left self.old) (left self.new) result buf.new }
-        ensures cause { HasCause IoError.Failed (faults self.old) (faults self.new) result };
+        ensures cause { HasCause IoError.Failed (faults self.old) (faults self.new) result }
+        ensures kept { OnOk result (faults self.new ≡ faults self.old) };
+
+    /// The count stays at the last number of its type.
+    ghost bounded: { (value : Self) → faults value ≤ last_count };
 }
 
 /// A sink for bytes.
@@ -37,5 +41,9 @@ pub trait Sink {
         ensures bound { WritesAtMost result bytes.now }
         ensures some { 0 < length bytes.now → IfOk result (λ count. 1 ≤ count) }
         ensures bytes { WriteAppends (written self.old) (written self.new) result bytes.now }
-        ensures cause { HasCause IoError.Failed (faults self.old) (faults self.new) result };
+        ensures cause { HasCause IoError.Failed (faults self.old) (faults self.new) result }
+        ensures kept { OnOk result (faults self.new ≡ faults self.old) };
+
+    /// The count stays at the last number of its type.
+    ghost bounded: { (value : Self) → faults value ≤ last_count };
 }
