@@ -1,9 +1,9 @@
 -- How a run of calls goes on.
 use Rattle.std.proofs.Common.{◌≡◌, inl, inr, ⊎_elim, ℕ, List, ◌++◌, sym, ◌∙◌, ap, arith, append_assoc}
 use Rattle.std.specs.Prelude.{Some, Result, Ok, Err, OnOk, OnErr}
-use Rattle.mg_disk.specs.declared.names.Name.{Name}
 use Rattle.mg_disk.specs.Images.{Image, View, Elapses, Grows, Appended, AppendFailed}
 use Rattle.mg_disk.specs.Moments.{LeavesOnly, EachImage, Begins}
+use Rattle.mg_types.specs.declared.names.Name.{Name}
 
 -- before the first call
 pub started : (old : View) (P : Image → Type 0) → ((c : Image) → old.left_since old.moment c → old.may_leave c) → EachImage old P → LeavesOnly old old P

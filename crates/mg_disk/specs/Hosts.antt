@@ -1,6 +1,6 @@
 -- What a host holds, and what lending and giving back do to it.
-use Rattle.std.specs.Prelude.{◌≡◌, ◌≢◌, ◌<◌, ◌⊎◌, ℕ, Bool, true, false, List, Option, Some}
-use Rattle.mg_disk.specs.Images.{View, Opened}
+use Rattle.std.specs.Prelude.{◌≡◌, ◌≢◌, ◌<◌, ◌⊎◌, ℕ, Bool, true, false, IsTrue, List, Option, Some, IsSome}
+use Rattle.mg_disk.specs.Images.{View}
 
 -- the numbers of volumes: one for each partition, and one for the shared log
 abbrev pub IsVolume : ℕ → Type 0
@@ -11,7 +11,7 @@ pub record HostState (V : Type 0) : Type 0 where
   pub settings : Option (List ℕ)
   -- which volumes are lent
   pub out : ℕ → Bool
-  -- each volume that is in, as it was found or given back
+  -- each volume that is in, as it was found or given back, where volumes tell what they hold
   pub inside : ℕ → Option V
   -- the count of faults of each volume, and the moment of its clock, when it was last lent
   pub lent_faults : ℕ → ℕ
@@ -32,16 +32,20 @@ pub record Lent {V : Type 0} (n count now : ℕ) (old new : HostState V) : Type 
   pub faults : new.lent_faults n ≡ count
   pub moment : new.lent_moment n ≡ now
 
--- volume n is in, and is this one
-pub record GivenBack {V : Type 0} (n : ℕ) (vol : V) (old new : HostState V) : Type 0 where
+-- volume n is in, and is this one where volumes tell what they hold
+pub record GivenBack {V : Type 0} (tells : Bool) (n : ℕ) (vol : V) (old new : HostState V) : Type 0 where
   pub others : SameButFor n old new
   pub out : new.out n ≡ false
-  pub inside : new.inside n ≡ Some vol
+  pub inside : IsTrue tells → new.inside n ≡ Some vol
   pub lent_faults : new.lent_faults n ≡ old.lent_faults n
   pub lent_moment : new.lent_moment n ≡ old.lent_moment n
 
--- the volume that was inside at n is made lasting as this one
-pub record OpensFound {V : Type 0} (n : ℕ) (view : V → View) (old : HostState V) (vol : V) : Type 0 where
+-- this volume has the contents of the volume that was inside at n
+pub record HasFound {V : Type 0} (n : ℕ) (view : V → View) (old : HostState V) (vol : V) : Type 0 where
   pub found : V
   pub was : old.inside n ≡ Some found
-  pub opened : Opened (view found) (view vol)
+  pub contents : (view vol).contents ≡ (view found).contents
+
+-- each volume that is in is inside
+abbrev pub HasVolumes : {V : Type 0} → HostState V → Type 0
+HasVolumes state = (n : ℕ) → IsVolume n → state.out n ≡ false → IsSome (state.inside n)

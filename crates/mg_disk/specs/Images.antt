@@ -1,12 +1,16 @@
 -- What a volume holds, what a crash may leave of it, and what the calls of a volume do to both.
-use Rattle.std.specs.Prelude.{◌≡◌, ◌≢◌, ◌≤◌, ◌⊎◌, ℕ, Option, None, Some, List, [], ◌++◌, length}
-use Rattle.mg_disk.specs.declared.names.Name.{Name}
+use Rattle.std.specs.Prelude.{◌≡◌, ◌≢◌, ◌≤◌, ◌<◌, ◌⊎◌, ◌^◌, ℕ, Bool, false, Option, None, Some, List, [], ◌++◌, length, All}
 use Rattle.mg_disk.specs.Files.{IsFront}
-use Rattle.mg_disk.specs.Names.{IsLogName}
+use Rattle.mg_types.specs.declared.names.Name.{Name}
+use Rattle.mg_types.specs.Names.{IsLogName}
 
 -- what each name stands for: the bytes of a sealed file or of a log
 abbrev pub Image : Type 0
 Image = Name → Option (List ℕ)
+
+-- what the image's names stand for are bytes
+abbrev pub HoldsBytes : Image → Type 0
+HoldsBytes image = (name : Name) (bytes : List ℕ) → image name ≡ Some bytes → All (λ byte. byte < 2 ^ 8) bytes
 
 -- all that is said of a volume
 pub record View : Type 1 where
@@ -39,6 +43,7 @@ pub record Grows (name : Name) (most : ℕ) (old new : Image) : Type 0 where
   pub before : old name ≡ Some front
   pub after : Sets name (Some (front ++ behind)) old new
   pub bound : length (front ++ behind) ≤ most
+  pub are_bytes : All (λ byte. byte < 2 ^ 8) behind
 
 -- Nothing changed, and a crash leaves nothing that it could not leave before.
 pub record Stays (old new : View) : Type 0 where
@@ -54,10 +59,10 @@ pub record NameSet (name : Name) (value : Option (List ℕ)) (old new : View) : 
   pub written : new.written ≡ old.written
   pub images : (c : Image) → new.may_leave c → (d : Image) × old.may_leave d × Sets name value d c
 
--- Nothing changed, but a crash may leave the name standing for that.
+-- The name stands for that or for what it stood for: reads give one of the two, and a crash may leave either, whichever reads give.
 pub record NameInDoubt (name : Name) (value : Option (List ℕ)) (old new : View) : Type 0 where
   pub time : Elapses old new
-  pub contents : new.contents ≡ old.contents
+  pub contents : (new.contents ≡ old.contents) ⊎ Sets name value old.contents new.contents
   pub written : new.written ≡ old.written
   pub images : (c : Image) → new.may_leave c → old.may_leave c ⊎ ((d : Image) × old.may_leave d × Sets name value d c)
 
@@ -93,8 +98,9 @@ abbrev pub bytes_of : Option (List ℕ) → List ℕ
 bytes_of None = []
 bytes_of (Some bytes) = bytes
 
--- What was found, made lasting: the same contents, which is all that a crash leaves; only what the logs have counts as written.
-pub record Opened (found opened : View) : Type 0 where
-  pub contents : opened.contents ≡ found.contents
-  pub written : (name : Name) → IsLogName name → opened.written name ≡ bytes_of (found.contents name)
-  pub images : (c : Image) → opened.may_leave c → c ≡ found.contents
+-- A volume at rest: a crash leaves what reads give and nothing else, no log is in writing, and what was written is what the logs have.
+pub record Settled {L : Type 0} (view : View) (in_writing : L → Bool) : Type 0 where
+  pub image : view.may_leave view.contents
+  pub only : (c : Image) → view.may_leave c → c ≡ view.contents
+  pub closed : (log : L) → in_writing log ≡ false
+  pub written : (name : Name) → IsLogName name → view.written name ≡ bytes_of (view.contents name)

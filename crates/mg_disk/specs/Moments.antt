@@ -1,7 +1,7 @@
 -- What a crash leaves at each moment of a run of calls.
 use Rattle.std.specs.Prelude.{◌≡◌, ◌≤◌, ◌⊎◌, ℕ, Some, List, ◌++◌}
-use Rattle.mg_disk.specs.declared.names.Name.{Name}
 use Rattle.mg_disk.specs.Images.{Image, View}
+use Rattle.mg_types.specs.declared.names.Name.{Name}
 
 -- A crash at any moment since old leaves an image that has P.
 pub record LeavesOnly (old new : View) (P : Image → Type 0) : Type 0 where

@@ -1,15 +1,16 @@
 //! Small clients, proved over every volume and host. They are public to show that what the traits say is enough to store
 //! bytes and read them again after a crash.
 
-ghost use Rattle.std.specs.Prelude.{◌≡◌, ◌++◌, List, ℕ, Some, IfOk, OnOk, IsSomeAnd, IsTrue, false};
-ghost use Rattle.mg_faults.specs.Causes.{HasCause};
+ghost use Rattle.std.specs.Prelude.{◌≡◌, ◌<◌, ◌++◌, List, ℕ, None, Some, IfOk, OnOk, IsSome, IsSomeAnd, IsTrue, false};
+ghost use Rattle.mg_faults.specs.Causes.{HasCause, last_count};
 ghost use Rattle.mg_disk.specs.Files.{ReadsAt};
 ghost use Rattle.mg_disk.specs.Hosts.{IsVolume};
 ghost use Rattle.mg_disk.specs.Images.{View, Appended};
 ghost use Rattle.mg_disk.specs.Moments.{LeavesOnly, EachImage, Begins};
-ghost use Rattle.mg_disk.specs.Names.{IsLogName};
+ghost use Rattle.mg_types.specs.Names.{IsLogName};
 
-use crate::{DiskError, Host, Name, Volume};
+use crate::{DiskError, Host, Volume};
+use mg_types::Name;
 use std::alloc::Global;
 
 /// Appends to a log and syncs it. From Ok on each crash leaves a log that has the bytes.
@@ -67,7 +68,10 @@ pub fn read_found<H: Host>(
     requires kind { IsLogName name }
     ensures bytes { IsTrue H.Vol.tells → (vol : H.Vol) (log : List ℕ) → (H.state host.old).inside n ≡ Some vol → (H.Vol.view vol).contents name ≡ Some log
         → IfOk result (λ found. IsSomeAnd found (λ count. ReadsAt log 0 buf.old buf.new count)) }
-    ensures back { OnOk result ((H.state host.new).out n ≡ false) }
+    ensures absent { IsTrue H.Vol.tells → (vol : H.Vol) → (H.state host.old).inside n ≡ Some vol → (H.Vol.view vol).contents name ≡ None
+        → IfOk result (λ found. found ≡ None) }
+    ensures back { (H.state host.new).out n ≡ false }
+    ensures cause { (H.state host.new).lent_faults n < last_count → HasCause DiskError.Failed (H.faults host.old) (H.faults host.new) result }
 {
     let mut volume = host.volume(alloc, n)?;
     let taken = read_if_there(alloc, &mut volume, name, buf);
@@ -85,6 +89,7 @@ fn read_if_there<V: Volume>(
     requires { IsLogName name }
     ensures bytes { IsTrue V.tells → (log : List ℕ) → (V.view volume.old).contents name ≡ Some log
         → IfOk result (λ found. IsSomeAnd found (λ count. ReadsAt log 0 buf.old buf.new count)) }
+    ensures absent { IsTrue V.tells → (V.view volume.old).contents name ≡ None → IfOk result (λ found. found ≡ None) }
     ensures cause { HasCause DiskError.Failed (V.faults volume.old) (V.faults volume.new) result }
 {
     let names = volume.names(alloc)?;
@@ -92,4 +97,49 @@ fn read_if_there<V: Volume>(
         return Ok(None);
     }
     Ok(Some(volume.read_log(alloc, name, 0, buf)?))
+}
+
+/// Borrows volume n and makes a log of these bytes in it, synced. False where the name is there already.
+/// The volume is given back whatever happens.
+pub fn store_log<H: Host>(
+    alloc: Global,
+    host: &mut H,
+    n: u16,
+    name: Name,
+    bytes: &[u8],
+) -> Result<bool, DiskError>
+    requires exists { IsVolume n }
+    requires here { (H.state host.old).out n ≡ false }
+    requires kind { IsLogName name }
+    ensures stored { IsTrue H.Vol.tells → IfOk result (λ made. IsTrue made → (vol : H.Vol) → (H.state host.new).inside n ≡ Some vol
+        → EachImage (H.Vol.view vol) (λ image. image name ≡ Some bytes.now)) }
+    ensures taken { IsTrue H.Vol.tells → IfOk result (λ made. made ≡ false → (vol : H.Vol) → (H.state host.old).inside n ≡ Some vol
+        → IsSome ((H.Vol.view vol).contents name)) }
+    ensures back { (H.state host.new).out n ≡ false }
+    ensures cause { (H.state host.new).lent_faults n < last_count → HasCause DiskError.Failed (H.faults host.old) (H.faults host.new) result }
+{
+    let mut volume = host.volume(alloc, n)?;
+    let made = store_if_free(alloc, &mut volume, name, bytes);
+    host.give_back(n, volume);
+    made
+}
+
+// Makes a log of these bytes, synced, if there is none of that name.
+fn store_if_free<V: Volume>(
+    alloc: Global,
+    volume: &mut V,
+    name: Name,
+    bytes: &[u8],
+) -> Result<bool, DiskError>
+    requires { IsLogName name }
+    ensures stored { IsTrue V.tells → IfOk result (λ made. IsTrue made → EachImage (V.view volume.new) (λ image. image name ≡ Some bytes.now)) }
+    ensures taken { IsTrue V.tells → IfOk result (λ made. made ≡ false → IsSome ((V.view volume.old).contents name)) }
+    ensures cause { HasCause DiskError.Failed (V.faults volume.old) (V.faults volume.new) result }
+{
+    if volume.names(alloc)?.contains(&name) {
+        return Ok(false);
+    }
+    let mut log = volume.new_log(alloc, name)?;
+    append_and_sync(alloc, volume, &mut log, bytes)?;
+    Ok(true)
 }

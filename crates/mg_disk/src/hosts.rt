@@ -1,8 +1,9 @@
 //! The host: it lends volumes and ports, and keeps the settings.
 
 ghost use Rattle.std.specs.Prelude.{◌≡◌, ◌≤◌, ◌⊎◌, ◌<◌, ◌-◌, ℕ, Bool, true, false, List, Option, None, Some, IfOk, OnOk, OnErr, IsTrue, option_map};
-ghost use Rattle.mg_faults.specs.Causes.{HasCause, raised};
-ghost use Rattle.mg_disk.specs.Hosts.{HostState, IsVolume, Lent, GivenBack, OpensFound};
+ghost use Rattle.mg_faults.specs.Causes.{HasCause, raised, last_count};
+ghost use Rattle.mg_disk.specs.Hosts.{HostState, IsVolume, Lent, GivenBack, HasFound, HasVolumes};
+ghost use Rattle.mg_disk.specs.Images.{Settled};
 
 use crate::{DiskError, Files, Volume};
 use std::alloc::Global;
@@ -25,13 +26,13 @@ pub trait Host {
         ensures same { state self.new ≡ state self.old }
         ensures cause { HasCause DiskError.Failed (faults self.old) (faults self.new) result };
 
-    /// Lends volume n, after all that was found in it was made lasting: its one image is what its reads give, and none of its
-    /// logs is in writing.
+    /// Lends volume n, after all that was found in it was made lasting.
     fn volume(&mut self, alloc: Global, n: u16) -> Result<Self::Vol, DiskError>
         requires exists { IsVolume n }
         requires here { (state self.old).out n ≡ false }
         ensures lent { IfOk result (λ vol. Lent n (Self.Vol.faults vol) (Self.Vol.view vol).moment (state self.old) (state self.new)) }
-        ensures opened { IsTrue Self.Vol.tells → IfOk result (λ vol. OpensFound n Self.Vol.view (state self.old) vol) }
+        ensures found { IsTrue Self.Vol.tells → IfOk result (λ vol. HasFound n Self.Vol.view (state self.old) vol) }
+        ensures settled { IsTrue Self.Vol.tells → IfOk result (λ vol. Settled (Self.Vol.view vol) (Self.Vol.in_writing vol)) }
         ensures writing { IfOk result (λ vol. (log : Self.Vol.Log) → Self.Vol.in_writing vol log ≡ false) }
         ensures same { OnErr result (state self.new ≡ state self.old) }
         ensures cause { HasCause DiskError.Failed (faults self.old) (faults self.new) result };
@@ -39,11 +40,12 @@ pub trait Host {
     /// Takes volume n back. What its count rose by while it was out is added to the host's.
     fn give_back(&mut self, n: u16, vol: Self::Vol)
         requires { IsTrue ((state self.old).out n) }
-        ensures given { GivenBack n vol (state self.old) (state self.new) }
+        ensures given { GivenBack Self.Vol.tells n vol (state self.old) (state self.new) }
         ensures faults { faults self.new ≡ raised (faults self.old) (Self.Vol.faults vol - (state self.old).lent_faults n) };
 
-    /// A port.
+    /// A port, which has counted no fault yet.
     fn files(&mut self, alloc: Global) -> Result<<Self::Vol as Volume>::Port, DiskError>
+        ensures fresh { IfOk result (λ port. Self.Vol.Port.faults port ≡ 0) }
         ensures same { state self.new ≡ state self.old }
         ensures cause { HasCause DiskError.Failed (faults self.old) (faults self.new) result };
 
@@ -51,4 +53,10 @@ pub trait Host {
     fn give_port(&mut self, port: <Self::Vol as Volume>::Port)
         ensures same { state self.new ≡ state self.old }
         ensures faults { faults self.new ≡ raised (faults self.old) (Self.Vol.Port.faults port) };
+
+    /// Where volumes tell what they hold, the host has each that is in.
+    ghost has_volumes: { IsTrue Self.Vol.tells → (host : Self) → HasVolumes (state host) };
+
+    /// A count of faults has a last value.
+    ghost bounded: { (host : Self) → faults host ≤ last_count };
 }

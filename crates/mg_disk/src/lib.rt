@@ -11,9 +11,10 @@ mod names;
 mod ports;
 mod volumes;
 
-pub use clients::{append_and_sync, append_behind, read_found};
+pub use clients::{append_and_sync, append_behind, read_found, store_log};
 pub use errors::DiskError;
 pub use hosts::Host;
-pub use names::Name;
-pub use ports::Files;
-pub use volumes::Volume;
+pub use mg_types::{Kind, Name};
+pub use names::numbers;
+pub use ports::{Files, SendFiles};
+pub use volumes::{SendVolume, Volume};

@@ -1,11 +1,20 @@
-//! Names in a volume.
+//! Lists of names.
 
-/// A name in a volume: of a sealed file where the kind is 1 to 3, of a log where it is 4 or 5.
-/// Names are ordered by kind, then by number.
-#[derive(Clone, Copy, Debug, PartialEq, Eq, PartialOrd, Ord, Hash)]
-pub struct Name {
-    /// What the name stands for.
-    pub kind: u8,
-    /// The number among the names of its kind.
-    pub number: u64,
+ghost use Rattle.std.specs.Prelude.{◌≡◌, IfOk};
+ghost use Rattle.mg_disk.specs.Names.{numbers_of};
+
+use mg_types::{Kind, Name};
+use std::alloc::{AllocError, Global};
+
+/// The numbers of the names of this kind, in the order of the names.
+pub fn numbers(alloc: Global, names: &[Name], kind: Kind) -> Result<Vec<u64>, AllocError>
+    ensures { IfOk result (λ numbers. numbers.items ≡ numbers_of kind names.now) }
+{
+    let mut numbers = Vec::new(alloc);
+    for name in names {
+        if name.kind == kind {
+            numbers.push(name.number)?;
+        }
+    }
+    Ok(numbers)
 }

@@ -1,7 +1,7 @@
 //! Ports: sealed files, written once and read by any thread.
 
 ghost use Rattle.std.specs.Prelude.{◌≡◌, ℕ, ◌≤◌, List, [], Option, None, Some, length, IfOk, OnOk, OnErr, IfSome, IsErrOf, IsTrue};
-ghost use Rattle.mg_faults.specs.Causes.{HasCause};
+ghost use Rattle.mg_faults.specs.Causes.{HasCause, last_count};
 ghost use Rattle.mg_disk.specs.Files.{extended, IsFront, ReadsAt};
 
 use crate::DiskError;
@@ -9,14 +9,13 @@ use std::alloc::Global;
 
 /// A port, one value per thread, through which sealed files are written and read.
 ///
-/// A sealed file never changes. It can be shared between threads, and is readable for as long as a value of it is held,
-/// whatever happens to its name.
+/// A sealed file never changes, and is readable for as long as a value of it is held, whatever happens to its name.
 pub trait Files: Drop {
     /// A file that is being written.
     type Draft: Drop;
 
     /// A file that never changes.
-    type Sealed: Drop + Send + Sync;
+    type Sealed: Drop;
 
     /// A draft's bytes, where the port tells them.
     ghost drafted: { Self.Draft → Option (List ℕ) };
@@ -56,7 +55,7 @@ pub trait Files: Drop {
         ensures len { IfOk result (λ len. IfSome (told file.now) (λ bytes. len ≡ length bytes)) }
         ensures cause { HasCause DiskError.Failed (faults self.old) (faults self.new) result };
 
-    /// Reads from that place on: as many bytes as `buf` has room for and the file has. Answers how many.
+    /// Reads from that offset on: as many bytes as `buf` has room for and the file has. Answers how many.
     fn read(
         &mut self,
         alloc: Global,
@@ -81,4 +80,11 @@ pub trait Files: Drop {
 
     /// Whether a cache may keep blocks of that file.
     fn keeps(&self, file: &Self::Sealed) -> bool;
+
+    /// A count of faults has a last value.
+    ghost bounded: { (port : Self) → faults port ≤ last_count };
 }
+
+/// A port that may be used in another thread than the one that made it, with its drafts and files.
+/// Only functions that start threads ask for it.
+pub trait SendFiles: Files<Draft: Send, Sealed: Send + Sync> + Send {}

@@ -1,15 +1,17 @@
 //! Volumes: names of sealed files, and logs, with what a crash may leave of both.
 
-ghost use Rattle.std.specs.Prelude.{◌≡◌, ◌≢◌, ◌≤◌, ◌↔◌, Bool, true, ℕ, List, [], Option, None, Some, length, IfOk, OnOk, OnErr, IfSome, IsSome, IsTrue, MatchOption};
+ghost use Rattle.std.specs.Prelude.{◌≡◌, ◌≢◌, ◌≤◌, ◌↔◌, ◌⊎◌, Bool, true, ℕ, List, [], Option, None, Some, length, IfOk, OnOk, OnErr, IfSome, IsSome, IsTrue, MatchOption};
 ghost use Rattle.std.specs.List.{Contains};
 ghost use Rattle.std.specs.List.Sorted.{IsStrictlySortedBy};
-ghost use Rattle.mg_disk.specs.declared.names.Name.{Name};
-ghost use Rattle.mg_faults.specs.Causes.{HasCause};
+ghost use Rattle.mg_types.specs.declared.names.Name.{Name};
+ghost use Rattle.mg_types.specs.Names.{IsFileName, IsLogName};
+ghost use Rattle.mg_faults.specs.Causes.{HasCause, last_count};
 ghost use Rattle.mg_disk.specs.Files.{ReadsAt, found_bytes};
-ghost use Rattle.mg_disk.specs.Images.{Image, View, Stays, NameSet, NameInDoubt, Appended, AppendFailed, Synced};
-ghost use Rattle.mg_disk.specs.Names.{IsFileName, IsLogName, KeepsEach};
+ghost use Rattle.mg_disk.specs.Images.{Image, View, HoldsBytes, Stays, NameSet, NameInDoubt, Appended, AppendFailed, Synced};
+ghost use Rattle.mg_disk.specs.Names.{KeepsEach};
 
-use crate::{DiskError, Files, Name};
+use crate::{DiskError, Files, SendFiles};
+use mg_types::Name;
 use std::alloc::Global;
 
 /// A volume: names that stand for sealed files, and logs that grow at their end.
@@ -21,7 +23,7 @@ pub trait Volume: Drop {
     type Port: Files;
 
     /// A log in writing.
-    type Log: Drop + Send;
+    type Log: Drop;
 
     /// Whether the volume tells what it holds.
     ghost tells: { Bool };
@@ -41,9 +43,10 @@ pub trait Volume: Drop {
     /// How often the volume has failed; it stays at its last value.
     ghost faults: { Self → ℕ };
 
-    /// All names, each once, by kind and then by number.
+    /// All names. A volume that tells what it holds gives each once, by kind and then by number; another may give them in any
+    /// order.
     fn names(&mut self, alloc: Global) -> Result<Vec<Name>, DiskError>
-        ensures order { IfOk result (λ names. IsStrictlySortedBy ⟦<Name as Ord>⟧.cmp names.items) }
+        ensures order { IsTrue tells → IfOk result (λ names. IsStrictlySortedBy ⟦<Name as Ord>⟧.cmp names.items) }
         ensures all { IsTrue tells → IfOk result (λ names. (name : Name) → Contains names.items name ↔ IsSome ((view self.old).contents name)) }
         ensures stays { IsTrue tells → Stays (view self.old) (view self.new) }
         ensures writing { (log : Self.Log) → in_writing self.new log ≡ in_writing self.old log }
@@ -61,10 +64,13 @@ pub trait Volume: Drop {
         ensures stays { IsTrue tells → Stays (view self.old) (view self.new) }
         ensures writing { (log : Self.Log) → in_writing self.new log ≡ in_writing self.old log }
         ensures given { IfOk result (λ found. IfSome found (λ file. stands_for self.new name ≡ Some (Self.Port.identity file))) }
-        ensures standing { KeepsEach (stands_for self.old) (stands_for self.new) }
+        ensures same { OnErr result (stands_for self.new name ≡ stands_for self.old name) }
+        ensures keeps { IsTrue tells → KeepsEach (stands_for self.old) (stands_for self.new) }
+        ensures standing { (other : Name) → other ≢ name → stands_for self.new other ≡ stands_for self.old other }
         ensures cause { HasCause DiskError.Failed (faults self.old) (faults self.new) result };
 
-    /// Lets the name stand for the file, also after a crash. After an error it does not, but after a crash it may.
+    /// Lets the name stand for the file, also after a crash. After an error it may, and after a crash it may or not,
+    /// until the name is changed again. A file that has other names keeps them.
     fn adopt(
         &mut self,
         alloc: Global,
@@ -80,14 +86,15 @@ pub trait Volume: Drop {
         ensures standing { (other : Name) → other ≢ name → stands_for self.new other ≡ stands_for self.old other }
         ensures cause { HasCause DiskError.Failed (faults self.old) (faults self.new) result };
 
-    /// Takes the name away, also after a crash; an absent name is Ok. After an error it stands as before, but after a crash
-    /// it may be gone.
+    /// Takes the name away, also after a crash; an absent name is Ok. After an error it may be gone, and after a crash it may
+    /// be gone or not, until the name is changed again.
     fn remove(&mut self, alloc: Global, name: Name) -> Result<(), DiskError>
         ensures set { IsTrue tells → OnOk result (NameSet name None (view self.old) (view self.new)) }
         ensures doubt { IsTrue tells → OnErr result (NameInDoubt name None (view self.old) (view self.new)) }
         ensures writing { (log : Self.Log) → log_name log ≢ name → in_writing self.new log ≡ in_writing self.old log }
         ensures standing { (other : Name) → other ≢ name → stands_for self.new other ≡ stands_for self.old other }
-        ensures still { OnErr result (stands_for self.new name ≡ stands_for self.old name) }
+        ensures gone { OnOk result (stands_for self.new name ≡ None) }
+        ensures still { OnErr result ((stands_for self.new name ≡ stands_for self.old name) ⊎ (stands_for self.new name ≡ None)) }
         ensures cause { HasCause DiskError.Failed (faults self.old) (faults self.new) result };
 
     /// Whether the name is known to stand for a file of the same bytes. It is true for a file that this volume adopted
@@ -96,7 +103,8 @@ pub trait Volume: Drop {
         ensures bytes { IsTrue tells → IsTrue result → (view self.now).contents name ≡ Self.Port.told file.now }
         ensures given { stands_for self.now name ≡ Some (Self.Port.identity file.now) → IsTrue result };
 
-    /// An empty log under the name, also after a crash. After an error there is none, but after a crash there may be.
+    /// An empty log under the name, also after a crash. After an error there may be one, which is not in writing, and after a
+    /// crash there may be one or not, until the name is changed again.
     fn new_log(&mut self, alloc: Global, name: Name) -> Result<Self::Log, DiskError>
         requires kind { IsLogName name }
         requires absent { IsTrue tells → (view self.old).contents name ≡ None }
@@ -141,7 +149,7 @@ pub trait Volume: Drop {
         ensures standing { (name : Name) → stands_for self.new name ≡ stands_for self.old name }
         ensures cause { HasCause DiskError.Failed (faults self.old) (faults self.new) result };
 
-    /// Reads the log under a name from that place on, as `Files::read` does.
+    /// Reads the log under a name from that offset on, as `Files::read` does.
     fn read_log(
         &mut self,
         alloc: Global,
@@ -158,6 +166,9 @@ pub trait Volume: Drop {
         ensures standing { (name : Name) → stands_for self.new name ≡ stands_for self.old name }
         ensures cause { HasCause DiskError.Failed (faults self.old) (faults self.new) result };
 
+    /// A crash may leave what reads give.
+    ghost may_leave_contents: { IsTrue tells → (volume : Self) → (view volume).may_leave (view volume).contents };
+
     /// This moment is one of those since an earlier one.
     ghost counts_now: { IsTrue tells → (volume : Self) (t : ℕ) (c : Image) → t ≤ (view volume).moment → (view volume).may_leave c → (view volume).left_since t c };
 
@@ -166,4 +177,17 @@ pub trait Volume: Drop {
 
     /// A volume that tells has a port that tells each sealed file.
     ghost port_tells: { IsTrue tells → (file : Self.Port.Sealed) → IsSome (Self.Port.told file) };
+
+    /// What reads give are bytes.
+    ghost contents_are_bytes: { IsTrue tells → (volume : Self) → HoldsBytes (view volume).contents };
+
+    /// So is what a crash might have left.
+    ghost images_are_bytes: { IsTrue tells → (volume : Self) (t : ℕ) (c : Image) → (view volume).left_since t c → HoldsBytes c };
+
+    /// A count of faults has a last value.
+    ghost bounded: { (volume : Self) → faults volume ≤ last_count };
 }
+
+/// A volume that may be used in another thread than the one that made it, with its logs, its port and the port's files.
+/// Only functions that start threads ask for it.
+pub trait SendVolume: Volume<Log: Send, Port: SendFiles> + Send {}
