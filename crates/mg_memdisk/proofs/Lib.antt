@@ -1,6 +1,9 @@
+pub mod Choosing
+pub mod EntryLaws
 pub mod Leaving
 pub mod Listed
+pub mod Picking
 pub mod Pushed
-pub mod Same
 pub mod Slots
+pub mod StandingLaws
 pub mod Views

@@ -5,10 +5,10 @@ use Rattle.std.specs.BTreeSet.{BTreeSet, contains}
 use Rattle.std.specs.List.{Contains}
 use Rattle.std.specs.Prelude.{IsTrue, IsSome, Option, Some, None, is_some, Result, Ok, Err, IfOk, Vec}
 use Rattle.std.specs.declared.alloc.Global.{Global}
-use Rattle.mg_disk.specs.declared.names.Name.{Name}
+use Rattle.mg_types.specs.declared.names.Name.{Name}
 use Rattle.mg_disk.specs.Images.{Image}
 use Rattle.mg_memdisk.specs.Events.{Lists}
-use Rattle.mg_memdisk.proofs.Same.{name_cmp, name_total, name_exact}
+use Rattle.mg_disk.proofs.NameLaws.{name_cmp, name_total, name_exact}
 
 some_true : {T : Type 0} (b : Bool) (o : Option T) → b ≡ is_some o → IsTrue b ↔ IsSome o
 some_true {T} b None e = subst (λ (t : Bool). IsTrue t ↔ IsSome {T = T} None) (sym e) ((λ h. h), λ h. h)

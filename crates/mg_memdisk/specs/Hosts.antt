@@ -1,21 +1,22 @@
 -- What a host in memory holds.
-use Rattle.std.specs.Prelude.{◌≡◌, ℕ, Bool, false, if◌then◌else◌, Option, None, Some, option_map, is_none, List, [], ◌∷◌, Vec}
+use Rattle.std.specs.Prelude.{◌≡◌, ◌&&◌, ℕ, Bool, true, false, if◌then◌else◌, Option, None, Some, option_map, is_none, List, [], ◌∷◌, Vec}
 use Rattle.std.specs.declared.alloc.Global.{Global}
 use Rattle.std.specs.List.{slice_get}
+use Rattle.mg_faults.specs.Causes.{kept_count}
 use Rattle.mg_disk.specs.Hosts.{HostState, SameButFor}
 use Rattle.mg_memdisk.specs.declared.hosts.MemHost.{MemHost}
 use Rattle.mg_memdisk.specs.declared.hosts.Slot.{Slot}
 use Rattle.mg_memdisk.specs.declared.volumes.MemVolume.{MemVolume}
 use Rattle.mg_memdisk.specs.Places.{place_of, is_volume}
-use Rattle.mg_memdisk.specs.Volumes.{mem_view, mem_calls, IsEmpty}
+use Rattle.mg_memdisk.specs.Volumes.{mem_calls, IsEmpty}
 
 -- the slot of volume n
 abbrev pub slot_of : List Slot → ℕ → Option Slot
 slot_of slots n = if is_volume n then slice_get slots (place_of n) else None
 
--- whether a slot's volume is lent
+-- whether a slot's volume is lent; a host has each slot
 abbrev pub slot_out : Option Slot → Bool
-slot_out None = false
+slot_out None = true
 slot_out (Some slot) = is_none slot.inside
 
 -- the volume in a slot
@@ -32,7 +33,7 @@ slot_faults (Some slot) = slot.lent_faults
 abbrev pub state_of : Option (List ℕ) → List Slot → HostState MemVolume
 state_of settings slots = record {
   settings = settings;
-  out = λ n. slot_out (slot_of slots n);
+  out = λ n. is_volume n && slot_out (slot_of slots n);
   inside = λ n. slot_inside (slot_of slots n);
   lent_faults = λ n. slot_faults (slot_of slots n);
   lent_moment = λ n. 0;
@@ -43,7 +44,7 @@ mem_state host = state_of (option_map (λ bytes. bytes.items) host.settings) hos
 
 -- how often the host and what it got back have failed
 abbrev pub host_faults : MemHost → ℕ
-host_faults host = host.faults
+host_faults host = kept_count host.faults
 
 -- the numbers of the failing calls of each port that is still to be made
 abbrev pub host_ports : MemHost → List (Vec ℕ Global)
@@ -56,8 +57,8 @@ first_failing (failing ∷ ports) = failing.items
 
 -- an empty volume, none of whose calls fail
 pub record IsNewVolume (vol : MemVolume) : Type 0 where
-  pub empty : IsEmpty (mem_view vol)
-  pub failing : (mem_calls vol).failing.items ≡ []
+  pub empty : IsEmpty vol
+  pub failing : (mem_calls vol).failing ≡ []
 
 -- volume n is in, is empty, and none of its calls fail
 pub record HasEmpty (n : ℕ) (state : HostState MemVolume) : Type 0 where

@@ -1,8 +1,12 @@
-pub mod Counted
 pub mod Crashes
 pub mod Events
 pub mod Files
+pub mod Holding
+pub mod HostLaws
 pub mod Hosts
 pub mod Laws
+pub mod Optional
 pub mod Places
+pub mod SameNames
+pub mod Standings
 pub mod Volumes

@@ -1,13 +1,17 @@
 -- What a volume in memory holds.
 use Rattle.std.specs.Prelude.{◌≡◌, ℕ, Bool, false, if◌then◌else◌, Option, None, List, [], ◌∷◌, ◌++◌, take, drop}
 use Rattle.std.specs.List.{fold}
-use Rattle.mg_disk.specs.declared.names.Name.{Name}
-use Rattle.mg_disk.specs.Images.{Image, View}
-use Rattle.mg_memdisk.specs.declared.counted.Counted.{Counted}
+use Rattle.mg_types.specs.declared.names.Name.{Name}
+use Rattle.mg_disk.specs.Images.{Image, View, Settled}
+use Rattle.mg_faults.specs.Calls.{CallCounts}
+use Rattle.std.specs.declared.sync.Arc.{Arc}
+use Rattle.std.specs.declared.alloc.Global.{Global}
+use Rattle.mg_memdisk.specs.declared.bytes.Bytes.{Bytes}
 use Rattle.mg_memdisk.specs.declared.events.Event.{Event}
+use Rattle.mg_memdisk.specs.declared.events.Event.TheVariants.{Put, MayPut, Append}
 use Rattle.mg_memdisk.specs.declared.volumes.MemLog.{MemLog}
 use Rattle.mg_memdisk.specs.declared.volumes.MemVolume.{MemVolume}
-use Rattle.mg_memdisk.specs.Events.{is_file, nothing, held, opens, view_of}
+use Rattle.mg_memdisk.specs.Events.{is_file, nothing, kept, value_bytes, held, opens, view_of}
 
 -- what was found when the volume was handed out
 abbrev pub mem_found : MemVolume → Image
@@ -34,14 +38,21 @@ abbrev pub mem_log_name : MemLog → Name
 mem_log_name log = log.name
 
 -- its calls so far, and which of them fail
-abbrev pub mem_calls : MemVolume → Counted
-mem_calls volume = volume.counted
+abbrev pub mem_calls : MemVolume → CallCounts
+mem_calls volume = volume.calls
 
--- No name stands for anything, nothing was written, and a crash leaves no name either.
-pub record IsEmpty (view : View) : Type 0 where
-  pub contents : view.contents ≡ nothing
-  pub written : (name : Name) → view.written name ≡ []
-  pub images : (c : Image) → view.may_leave c → c ≡ nothing
+-- whether failed changes of names show in what reads give
+abbrev pub mem_shows : MemVolume → Bool
+mem_shows volume = volume.shows
+
+-- a volume at rest
+abbrev pub IsSettled : MemVolume → Type 0
+IsSettled volume = Settled (mem_view volume) (λ log. mem_open volume (mem_log_name log))
+
+-- no name stands for anything, in a volume at rest
+pub record IsEmpty (volume : MemVolume) : Type 0 where
+  pub settled : IsSettled volume
+  pub contents : (mem_view volume).contents ≡ nothing
 
 -- one event more happened
 pub record Pushes (event : Event) (old new : MemVolume) : Type 0 where
@@ -52,3 +63,15 @@ pub record Pushes (event : Event) (old new : MemVolume) : Type 0 where
 pub record Untouched (old new : MemVolume) : Type 0 where
   pub found : mem_found new ≡ mem_found old
   pub recent : mem_recent new ≡ mem_recent old
+
+-- an event lets the name stand for these bytes, or for nothing
+abbrev pub PutsName : Name → Option (List ℕ) → MemVolume → MemVolume → Type 0
+PutsName name bytes old new = (value : Option (Arc Bytes Global)) × (value_bytes value ≡ bytes) × Pushes (Put name value) old new
+
+-- an event lets the name stand for that or for what it stood for
+abbrev pub DoubtsName : Name → Option (List ℕ) → MemVolume → MemVolume → Type 0
+DoubtsName name bytes old new = (value : Option (Arc Bytes Global)) × (value_bytes value ≡ bytes) × Pushes (MayPut name value (mem_shows old)) old new
+
+-- an event puts these bytes behind the log's
+abbrev pub PutsBehind : Name → List ℕ → MemVolume → MemVolume → Type 0
+PutsBehind name bytes old new = (behind : Bytes) × (kept behind ≡ bytes) × Pushes (Append name behind) old new

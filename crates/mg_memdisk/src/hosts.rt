@@ -26,10 +26,9 @@ pub struct Slot {
 
 impl Slot {
     ghost use Rattle.std.specs.Prelude.{◌≡◌, false, Some, None, IsSome, IfSome};
-    ghost use Rattle.mg_disk.specs.declared.names.Name.{Name};
-    ghost use Rattle.mg_disk.specs.Images.{Opened};
+    ghost use Rattle.mg_faults.specs.Causes.{kept_count};
     ghost use Rattle.mg_memdisk.specs.declared.volumes.MemVolume.{MemVolume};
-    ghost use Rattle.mg_memdisk.specs.Volumes.{mem_view, mem_open, mem_calls};
+    ghost use Rattle.mg_memdisk.specs.Volumes.{mem_view, mem_calls, mem_shows, IsSettled};
     ghost use Rattle.mg_memdisk.specs.Hosts.{IsEmptySlot};
 
     // An empty volume.
@@ -45,11 +44,13 @@ impl Slot {
     // Lends the volume, after what it holds was made lasting.
     fn lend(&mut self) -> MemVolume
         requires { IsSome self.old.inside }
-        ensures opened { (found : MemVolume) → self.old.inside ≡ Some found → Opened (mem_view found) (mem_view result) }
-        ensures closed { (name : Name) → mem_open result name ≡ false }
+        ensures contents { (found : MemVolume) → self.old.inside ≡ Some found → (mem_view result).contents ≡ (mem_view found).contents }
+        ensures calls { (found : MemVolume) → self.old.inside ≡ Some found → mem_calls result ≡ mem_calls found }
+        ensures shows { (found : MemVolume) → self.old.inside ≡ Some found → mem_shows result ≡ mem_shows found }
+        ensures settled { IsSettled result }
         ensures start { (mem_view result).moment ≡ 0 }
         ensures out { self.new.inside ≡ None }
-        ensures count { self.new.lent_faults ≡ result.counted.faults }
+        ensures count { self.new.lent_faults ≡ kept_count (mem_calls result).faults }
     {
         let mut volume = self.inside.take().unwrap();
         volume.settle();
@@ -110,6 +111,8 @@ impl MemHost {
         requires exists { IsVolume n }
         requires here { (mem_state self.old).out n ≡ false }
         ensures put { Puts n vol (mem_state self.old) (mem_state self.new) }
+        ensures counts { host_faults self.new ≡ host_faults self.old }
+        ensures ports { host_ports self.new ≡ host_ports self.old }
         ensures memory { IsErrOf result DiskError.Failed → ⊥ }
     {
         let at = place(n);
@@ -121,6 +124,7 @@ impl MemHost {
     pub fn next_port(&mut self, failing: Vec<u64>) -> Result<(), DiskError>
         ensures kept { OnOk result (host_ports self.new ≡ host_ports self.old ++ failing ∷ []) }
         ensures same { mem_state self.new ≡ mem_state self.old }
+        ensures counts { host_faults self.new ≡ host_faults self.old }
         ensures memory { IsErrOf result DiskError.Failed → ⊥ }
     {
         self.ports.push_back(failing)?;
@@ -138,8 +142,14 @@ impl MemHost {
 }
 
 impl Host for MemHost {
-    ghost use Rattle.std.specs.Prelude.{◌≡◌, IfOk, drop};
-    ghost use Rattle.mg_faults.specs.Causes.{HasCause};
+    ghost use Rattle.std.specs.Prelude.{◌≡◌, ◌-◌, true, false, Some, option_map, IfOk, IsOk, OnErr, IsErrOf, IsTrue, drop};
+    ghost use Rattle.mg_disk.specs.Hosts.{IsVolume, Lent, GivenBack, HasFound};
+    ghost use Rattle.mg_memdisk.specs.declared.volumes.MemLog.{MemLog};
+    ghost use Rattle.mg_memdisk.specs.declared.volumes.MemVolume.{MemVolume};
+    ghost use Rattle.mg_memdisk.specs.Volumes.{mem_view, mem_open, mem_log_name, mem_calls, mem_shows, IsSettled};
+    ghost use Rattle.mg_faults.specs.Causes.{HasCause, kept_count, raised};
+    ghost use Rattle.mg_faults.proofs.CallLaws.{kept_is_bounded};
+    ghost use Rattle.mg_memdisk.specs.HostLaws.{host_has_volumes};
     ghost use Rattle.mg_memdisk.specs.Files.{port_calls};
     ghost use Rattle.mg_memdisk.specs.Hosts.{mem_state, host_faults, host_ports, first_failing};
 
@@ -149,19 +159,45 @@ impl Host for MemHost {
 
     ghost faults = { host_faults };
 
-    fn settings(&mut self, alloc: Global) -> Result<Option<Vec<u8>>, DiskError> {
+    fn settings(&mut self, alloc: Global) -> Result<Option<Vec<u8>>, DiskError>
+        ensures settings { IfOk result (λ found. option_map (λ bytes. bytes.items) found ≡ (mem_state self.old).settings) }
+        ensures same { mem_state self.new ≡ mem_state self.old }
+        ensures memory { IsErrOf result DiskError.Failed → ⊥ }
+        ensures cause { HasCause DiskError.Failed (host_faults self.old) (host_faults self.new) result }
+        ensures counts { host_faults self.new ≡ host_faults self.old }
+        ensures ports { host_ports self.new ≡ host_ports self.old }
+    {
         match &self.settings {
             Some(bytes) => Ok(Some(bytes.to_vec(alloc)?)),
             None => Ok(None),
         }
     }
 
-    fn volume(&mut self, _: Global, n: u16) -> Result<MemVolume, DiskError> {
+    fn volume(&mut self, _: Global, n: u16) -> Result<MemVolume, DiskError>
+        requires exists { IsVolume n }
+        requires here { (mem_state self.old).out n ≡ false }
+        ensures lent { IfOk result (λ vol. Lent n (kept_count (mem_calls vol).faults) (mem_view vol).moment (mem_state self.old) (mem_state self.new)) }
+        ensures found { IfOk result (λ vol. HasFound n mem_view (mem_state self.old) vol) }
+        ensures calls { IfOk result (λ vol. (found : MemVolume) → (mem_state self.old).inside n ≡ Some found → mem_calls vol ≡ mem_calls found) }
+        ensures shows { IfOk result (λ vol. (found : MemVolume) → (mem_state self.old).inside n ≡ Some found → mem_shows vol ≡ mem_shows found) }
+        ensures settled { IfOk result (λ vol. IsSettled vol) }
+        ensures writing { IfOk result (λ vol. (log : MemLog) → mem_open vol (mem_log_name log) ≡ false) }
+        ensures lends { IsOk result }
+        ensures same { OnErr result (mem_state self.new ≡ mem_state self.old) }
+        ensures cause { HasCause DiskError.Failed (host_faults self.old) (host_faults self.new) result }
+        ensures counts { host_faults self.new ≡ host_faults self.old }
+        ensures ports { host_ports self.new ≡ host_ports self.old }
+    {
         let at = place(n);
         Ok(self.slots[at].lend())
     }
 
-    fn give_back(&mut self, n: u16, vol: MemVolume) {
+    fn give_back(&mut self, n: u16, vol: MemVolume)
+        requires { IsTrue ((mem_state self.old).out n) }
+        ensures given { GivenBack true n vol (mem_state self.old) (mem_state self.new) }
+        ensures faults { host_faults self.new ≡ raised (host_faults self.old) (kept_count (mem_calls vol).faults - (mem_state self.old).lent_faults n) }
+        ensures ports { host_ports self.new ≡ host_ports self.old }
+    {
         let at = place(n);
         let before = self.slots[at].lent_faults;
         self.faults.rise_by(before, vol.faults());
@@ -170,8 +206,12 @@ impl Host for MemHost {
 
     fn files(&mut self, alloc: Global) -> Result<MemFiles, DiskError>
         ensures same { mem_state self.new ≡ mem_state self.old }
+        ensures counts { host_faults self.new ≡ host_faults self.old }
+        ensures memory { IsErrOf result DiskError.Failed → ⊥ }
+        ensures fresh { IfOk result (λ port. kept_count (port_calls port).faults ≡ 0) }
+        ensures calls { IfOk result (λ port. (port_calls port).calls ≡ 0) }
         ensures cause { HasCause DiskError.Failed (host_faults self.old) (host_faults self.new) result }
-        ensures failing { IfOk result (λ port. (port_calls port).failing.items ≡ first_failing (host_ports self.old)) }
+        ensures failing { IfOk result (λ port. (port_calls port).failing ≡ first_failing (host_ports self.old)) }
         ensures ports { host_ports self.new ≡ drop 1 (host_ports self.old) }
     {
         let failing = match self.ports.pop_front() {
@@ -181,7 +221,15 @@ impl Host for MemHost {
         Ok(MemFiles::new(failing))
     }
 
-    fn give_port(&mut self, port: MemFiles) {
+    fn give_port(&mut self, port: MemFiles)
+        ensures same { mem_state self.new ≡ mem_state self.old }
+        ensures faults { host_faults self.new ≡ raised (host_faults self.old) (kept_count (port_calls port).faults) }
+        ensures ports { host_ports self.new ≡ host_ports self.old }
+    {
         self.faults.rise_by(FaultCount::new(), port.faults());
     }
+
+    ghost has_volumes = { λ tells host. host_has_volumes host };
+
+    ghost bounded = { λ host. kept_is_bounded host.faults };
 }

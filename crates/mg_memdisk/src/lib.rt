@@ -2,12 +2,16 @@
 //! program whose store lasts one run.
 #![tactic(auto)]
 
-mod counted;
+mod bytes;
+mod calls;
+mod choices;
 mod crashes;
 mod events;
 mod files;
 mod hosts;
+mod optional;
 mod replays;
+mod standings;
 mod volumes;
 
 pub use files::{MemDraft, MemFiles, MemSealed};

@@ -4,10 +4,11 @@ ghost use Rattle.std.specs.Prelude.{◌≡◌, ◌≤◌, ◌↔◌, true, false
 ghost use Rattle.std.specs.Option.{option_copied};
 ghost use Rattle.std.specs.List.{Contains, fold};
 ghost use Rattle.std.specs.List.Sorted.{IsStrictlySortedBy};
-ghost use Rattle.mg_disk.specs.declared.names.Name.{Name};
+ghost use Rattle.mg_types.specs.declared.names.Name.{Name};
 ghost use Rattle.mg_disk.specs.Images.{Image};
 ghost use Rattle.mg_memdisk.specs.Events.{is_file, nothing, held, value_bytes, Lists};
 
+use crate::bytes::Bytes;
 use crate::events::Event;
 use mg_disk::Name;
 use std::alloc::{AllocError, Global};
@@ -15,7 +16,7 @@ use std::collections::BTreeSet;
 use std::sync::Arc;
 
 /// The bytes of the file under a name; None where there is none.
-pub fn file_under(events: &[Event], name: Name) -> Option<&Arc<Vec<u8>>>
+pub fn file_under(events: &[Event], name: Name) -> Option<&Arc<Bytes>>
     requires { is_file name ≡ true }
     ensures { value_bytes (option_copied result) ≡ fold held nothing events.now name }
 {
@@ -28,15 +29,15 @@ pub fn file_under(events: &[Event], name: Name) -> Option<&Arc<Vec<u8>>>
 
 // The file under a name after one event more.
 fn file_after<'a>(
-    found: Option<&'a Arc<Vec<u8>>>,
+    found: Option<&'a Arc<Bytes>>,
     event: &'a Event,
     name: Name,
-) -> Option<&'a Arc<Vec<u8>>>
+) -> Option<&'a Arc<Bytes>>
     requires { is_file name ≡ true }
     ensures { (image : Image) → value_bytes (option_copied found.entry) ≡ image name → value_bytes (option_copied result) ≡ held image event.now name }
 {
     match event {
-        Event::Put(put, value) if *put == name => value.as_ref(),
+        Event::Put(put, value) | Event::MayPut(put, value, true) if *put == name => value.as_ref(),
         _ => found,
     }
 }
@@ -59,13 +60,13 @@ fn log_after(log: &mut Vec<u8>, event: &Event, name: Name) -> Result<(), AllocEr
     ensures { OnOk result ((image : Image) → IfSome (image name) (λ bytes. log.old.items ≡ bytes) → IfSome (held image event.now name) (λ bytes. log.new.items ≡ bytes)) }
 {
     match event {
-        Event::Put(put, value) if *put == name => {
+        Event::Put(put, value) | Event::MayPut(put, value, true) if *put == name => {
             log.clear();
             if let Some(bytes) = value {
-                log.extend_from_slice(bytes)?;
+                log.extend_from_slice(&bytes.items)?;
             }
         }
-        Event::Append(to, bytes) if *to == name => log.extend_from_slice(bytes)?,
+        Event::Append(to, bytes) if *to == name => log.extend_from_slice(&bytes.items)?,
         _ => {}
     }
     Ok(())
@@ -96,10 +97,13 @@ fn names_after(names: &mut BTreeSet<Name>, event: &Event) -> Result<(), AllocErr
     ensures { OnOk result ((image : Image) → Lists ⟦<Name as Ord>⟧.cmp names.old image → Lists ⟦<Name as Ord>⟧.cmp names.new (held image event.now)) }
 {
     match event {
-        Event::Put(name, Some(_)) => {
+        Event::Put(name, Some(_)) | Event::MayPut(name, Some(_), true) => {
             names.insert(*name)?;
         }
         Event::Put(name, None) => {
+            names.remove(name);
+        }
+        Event::MayPut(name, None, true) => {
             names.remove(name);
         }
         _ => {}

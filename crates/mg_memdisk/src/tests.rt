@@ -1,10 +1,13 @@
 //! Runs through each device, by functions that are generic over it.
 
 ghost use Rattle.std.specs.Prelude.{◌≡◌, false};
-ghost use Rattle.mg_disk.specs.Names.{IsFileName, IsLogName};
+ghost use Rattle.mg_types.specs.Names.{IsFileName, IsLogName};
 
 use crate::{MemFiles, MemHost, MemVolume};
-use mg_disk::{DiskError, Files, Host, Name, Volume, append_and_sync, append_behind, read_found};
+use mg_disk::{
+    DiskError, Files, Host, Kind, Name, Volume, append_and_sync, append_behind, read_found,
+    store_log,
+};
 use std::alloc::Global;
 use std::test::Fail;
 
@@ -44,6 +47,20 @@ fn adopt_and_find<V: Volume>(
         Some(found) => Ok(volume.holds(name, &found)),
         None => Ok(false),
     }
+}
+
+// Seals a draft whose one append fails, and answers the file's length.
+fn seal_after_failed_append<F: Files>(
+    alloc: Global,
+    port: &mut F,
+    bytes: &[u8],
+) -> Result<Option<u64>, DiskError> {
+    let mut draft = port.fresh(alloc)?;
+    if port.append(alloc, &mut draft, bytes).is_ok() {
+        return Ok(None);
+    }
+    let file = port.seal(alloc, draft)?;
+    Ok(Some(port.len(alloc, &file)?))
 }
 
 // Makes a log under a name that is free, appends to it, syncs it and appends more.
@@ -130,6 +147,26 @@ fn fill_third<H: Host>(
     filled
 }
 
+// Fills a volume one of whose calls fails, and answers whether a name is there then: in what reads give, and in what a crash
+// leaves by the choice of 0 and of 1.
+fn doubted(
+    alloc: Global,
+    volume: &mut MemVolume,
+    file: Name,
+    log: Name,
+    name: Name,
+) -> Result<[bool; 3], DiskError>
+    requires file { IsFileName file }
+    requires log { IsLogName log }
+{
+    let mut port = MemFiles::new(Vec::new(alloc));
+    let _ = fill(alloc, volume, &mut port, file, log);
+    let read = volume.names(alloc)?.contains(&name);
+    let before = volume.crash(alloc, &[0])?.names(alloc)?.contains(&name);
+    let after = volume.crash(alloc, &[1])?.names(alloc)?.contains(&name);
+    Ok([read, before, after])
+}
+
 #[test]
 fn a_file_is_written_and_read(rt: HostRuntime) -> Result<(), Fail> {
     let alloc = rt.alloc();
@@ -144,16 +181,48 @@ fn a_file_is_written_and_read(rt: HostRuntime) -> Result<(), Fail> {
 #[test]
 fn a_host_gives_back_what_was_stored(rt: HostRuntime) -> Result<(), Fail> {
     let alloc = rt.alloc();
-    let file = Name { kind: 2, number: 7 };
-    let log = Name { kind: 5, number: 1 };
+    let file = Name {
+        kind: Kind::Segment,
+        number: 7,
+    };
+    let log = Name {
+        kind: Kind::Wal,
+        number: 1,
+    };
+    let next = Name {
+        kind: Kind::Wal,
+        number: 2,
+    };
     let mut host = MemHost::new(alloc, None);
     assert_eq!(rt; fill_third(alloc, &mut host, file, log), Ok(true));
+    // the crash puts one byte behind the six that were synced
+    let left = host.left(3).crash(alloc, &[0, 1, b'!'])?;
     let mut buf = [0; 12];
     assert_eq!(rt;
         read_found(alloc, &mut host, 3, log, &mut buf),
         Ok(Some(11))
     );
     assert_eq!(rt; buf, *b"synced, not\0");
+    host.put(3, left)?;
+    assert_eq!(rt; read_found(alloc, &mut host, 3, log, &mut buf), Ok(Some(7)));
+    assert_eq!(rt; buf, *b"synced! not\0");
+    assert_eq!(rt; store_log(alloc, &mut host, 3, log, b"x"), Ok(false));
+    assert_eq!(rt; store_log(alloc, &mut host, 3, next, b"x"), Ok(true));
+    Ok(())
+}
+
+// The first port that the host makes fails its second call, which puts the first two of five bytes behind the draft's.
+#[test]
+fn a_failed_append_leaves_the_first_half(rt: HostRuntime) -> Result<(), Fail> {
+    let alloc = rt.alloc();
+    let mut host = MemHost::new(alloc, None);
+    host.next_port([2].to_vec(alloc)?)?;
+    let mut port = host.files(alloc)?;
+    assert_eq!(rt;
+        seal_after_failed_append(alloc, &mut port, b"abcde"),
+        Ok(Some(2))
+    );
+    assert_eq!(rt; port.faults().get(), 1);
     Ok(())
 }
 
@@ -169,7 +238,10 @@ fn the_listed_call_fails(rt: HostRuntime) -> Result<(), Fail> {
     assert_eq!(rt; port.faults().get(), 1);
     // the fifth call is the second append, which puts the first half of its five bytes behind the six that are there
     let mut volume = MemVolume::new(alloc, [5].to_vec(alloc)?);
-    let log = Name { kind: 5, number: 1 };
+    let log = Name {
+        kind: Kind::Wal,
+        number: 1,
+    };
     assert_eq!(rt;
         store(alloc, &mut volume, log, b"synced", b", not"),
         Err(DiskError::Failed)
@@ -183,7 +255,10 @@ fn the_listed_call_fails(rt: HostRuntime) -> Result<(), Fail> {
 #[test]
 fn a_crash_leaves_each_allowed_image(rt: HostRuntime) -> Result<(), Fail> {
     let alloc = rt.alloc();
-    let log = Name { kind: 5, number: 1 };
+    let log = Name {
+        kind: Kind::Wal,
+        number: 1,
+    };
     let mut volume = MemVolume::new(alloc, Vec::new(alloc));
     assert_eq!(rt; store(alloc, &mut volume, log, b"a", b"b"), Ok(true));
     let mut left = volume.crash(alloc, b"")?;
@@ -198,21 +273,48 @@ fn a_crash_leaves_each_allowed_image(rt: HostRuntime) -> Result<(), Fail> {
     Ok(())
 }
 
-// A log whose making failed is not there, and a crash leaves it empty or not at all.
+// A name whose adoption, removal or making failed is read as it is said, and a crash leaves it or not, whichever it is.
 #[test]
-fn a_crash_may_leave_a_name_whose_change_failed(rt: HostRuntime) -> Result<(), Fail> {
+fn a_name_whose_change_failed_is_in_doubt(rt: HostRuntime) -> Result<(), Fail> {
     let alloc = rt.alloc();
-    let log = Name { kind: 5, number: 1 };
-    // the second call makes the log
-    let mut volume = MemVolume::new(alloc, [2].to_vec(alloc)?);
+    let file = Name {
+        kind: Kind::Segment,
+        number: 7,
+    };
+    let log = Name {
+        kind: Kind::Wal,
+        number: 1,
+    };
+    // the second call adopts the file, the fourth removes its name, the sixth makes the log
+    for (call, name, was) in [(2, file, false), (4, file, true), (6, log, false)] {
+        let mut hidden = MemVolume::new(alloc, [call].to_vec(alloc)?);
+        let mut shown = MemVolume::new(alloc, [call].to_vec(alloc)?).showing();
+        assert_eq!(rt;
+            doubted(alloc, &mut hidden, file, log, name),
+            Ok([was, was, !was])
+        );
+        assert_eq!(rt;
+            doubted(alloc, &mut shown, file, log, name),
+            Ok([!was, was, !was])
+        );
+    }
+    Ok(())
+}
+
+// The second call of a volume that was put fails where it is lent, and no other.
+#[test]
+fn a_lent_volume_fails_at_its_listed_call(rt: HostRuntime) -> Result<(), Fail> {
+    let alloc = rt.alloc();
+    let log = Name {
+        kind: Kind::Wal,
+        number: 1,
+    };
+    let mut host = MemHost::new(alloc, None);
+    host.put(3, MemVolume::new(alloc, [2].to_vec(alloc)?))?;
     assert_eq!(rt;
-        store(alloc, &mut volume, log, b"a", b"b"),
+        store_log(alloc, &mut host, 3, log, b"x"),
         Err(DiskError::Failed)
     );
-    assert_eq!(rt; len_of(alloc, &mut volume, log), Ok(None));
-    let mut left = volume.crash(alloc, &[])?;
-    assert_eq!(rt; len_of(alloc, &mut left, log), Ok(None));
-    let mut left = volume.crash(alloc, &[1])?;
-    assert_eq!(rt; len_of(alloc, &mut left, log), Ok(Some(0)));
+    assert_eq!(rt; store_log(alloc, &mut host, 3, log, b"x"), Ok(true));
     Ok(())
 }

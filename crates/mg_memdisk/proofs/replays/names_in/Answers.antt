@@ -4,7 +4,7 @@ use Rattle.std.proofs.lemmas.List.{take_all}
 use Rattle.mg_memdisk.specs.declared.events.Event.{Event}
 use Rattle.mg_memdisk.specs.Events.{nothing, held, Lists}
 use Rattle.mg_memdisk.proofs.Listed.{listed}
-use Rattle.mg_memdisk.proofs.Same.{name_cmp}
+use Rattle.mg_disk.proofs.NameLaws.{name_cmp}
 use Rattle.mg_memdisk.proofs.replays.names_in.Goals as goal
 
 pub returns-clause-all : goal.returns-clause-all

@@ -1,5 +1,5 @@
 use Rattle.std.proofs.Common.{refl, ap, ◌∙◌}
-use Rattle.mg_memdisk.specs.declared.counted.Counted.{Counted}
+use Rattle.mg_faults.specs.Calls.{CallCounts}
 use Rattle.mg_memdisk.proofs.hosts.Slot.new.Goals as goal
 
 pub returns : goal.returns
@@ -8,6 +8,6 @@ returns c = record {
   inside = refl;
   is_new = record {
     empty = c.new-2.ensures.empty;
-    failing = ap (λ (calls : Counted). calls.failing.items) c.new-2.ensures.calls ∙ c.new.ensures.items;
+    failing = ap (λ (calls : CallCounts). calls.failing) c.new-2.ensures.calls ∙ c.new.ensures.items;
   };
 }

@@ -1,0 +1,18 @@
+//! Bytes that are kept.
+
+ghost use Rattle.std.specs.Prelude.{◌≡◌, ◌<◌, ◌^◌, All};
+
+/// Bytes that don't change any more.
+#[derive(Drop)]
+pub struct Bytes {
+    pub items: Vec<u8>,
+    ghost are_bytes: { All (λ byte. byte < 2 ^ 8) items.items },
+}
+
+impl Bytes {
+    pub fn new(items: Vec<u8>) -> Bytes
+        ensures { result.items ≡ items }
+    {
+        Bytes { items }
+    }
+}
