@@ -10,8 +10,9 @@ use Rattle.sha2.specs.Sha256.{sha256, digest_bytes, final_hash, initial_hash_256
 use Rattle.sha2.proofs.Facts256.{length-sha256}
 use Rattle.mg_frame.specs.BigEndian.{AreBytes, big_endian, big_endian_value}
 use Rattle.mg_frame.proofs.BigEndianLaws.{length-big_endian, AreBytes-big_endian, big_endian_value-big_endian, big_endian_value-lt, front_back, same_from_value, AreBytes-take, AreBytes-drop, AreBytes-append}
-use Rattle.mg_frame.specs.Frame.{digest, covered, frame, said_length, said_number, said_digest, true_digest, compared, judged, taken, IsFrameAt, StandsAt, BeginsWithNone, Means, TakesWritten}
-use Rattle.mg_frame.specs.declared.frame.Taken.TheVariants.{Whole, Number, Torn}
+use Rattle.mg_frame.specs.Frame.{digest, covered, frame, said_length, said_number, said_digest, true_digest, compared, judged, taken, IsFrameAt, StandsAt, BeginsWithNone, NoFrame, Means, TakesWritten, EndsLog}
+use Rattle.mg_frame.specs.declared.frame.Taken.{Taken}
+use Rattle.mg_frame.specs.declared.frame.Taken.TheVariants.{Whole, End, Short, Number, Torn}
 
 pub length-digest : (bytes : List ℕ) → length (digest bytes) ≡ 8
 unfolding digest
@@ -120,6 +121,15 @@ judged-frame number at body rest number_fits body_fits =
 pub TakesWritten-taken : (bytes : List ℕ) (at number : ℕ) → number < 2 ^ 64 → TakesWritten bytes at number (taken bytes at number)
 unfolding taken
 TakesWritten-taken bytes at number number_fits = λ body rest body_fits is. rw is (judged-frame number at body rest number_fits body_fits)
+
+-- where a frame of the number asked for begins, the answer is a whole one
+pub EndsLog-taken : (bytes : List ℕ) (at number : ℕ) (answer : Taken) → TakesWritten bytes at number answer → EndsLog bytes at number answer
+unfolding NoFrame
+EndsLog-taken bytes at number (Whole start end next) written = tt
+EndsLog-taken bytes at number End written = λ body rest fits is. (let z = written body rest fits is in cc)
+EndsLog-taken bytes at number (Short want have) written = λ body rest fits is. (let z = written body rest fits is in cc)
+EndsLog-taken bytes at number (Number kept asked) written = λ body rest fits is. (let z = written body rest fits is in cc)
+EndsLog-taken bytes at number (Torn kept found) written = λ body rest fits is. (let z = written body rest fits is in cc)
 
 -- ---- what is taken as whole is a frame
 

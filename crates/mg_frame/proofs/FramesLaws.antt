@@ -1,15 +1,15 @@
 -- Laws of frames one after another: one reading, and what a torn log gives.
-use Rattle.std.proofs.Common.{◌≡◌, ℕ, ◌+◌, ◌≤◌, ◌⊎◌, List, [], ◌∷◌, ◌++◌, length, take, drop, refl, sym, ap, subst, ◌∙◌, arith, inl, inr, suc}
+use Rattle.std.proofs.Common.{◌≡◌, ℕ, ◌+◌, ◌-◌, ◌<◌, ◌≤◌, ◌^◌, ◌⊎◌, List, [], ◌∷◌, ◌++◌, length, take, drop, refl, sym, ap, subst, ◌∙◌, arith, inl, inr, suc}
 use Rattle.std.proofs.Math.Seq.{take-add}
-use Rattle.std.proofs.lemmas.List.{take_at, drop_at, length-take-le, length-append, length-drop, take-append-drop, append_assoc, append-nil, append_cancel_left}
+use Rattle.std.proofs.lemmas.List.{take_at, drop_at, take-append-le, drop-append-le, length-take-le, length-append, length-drop, take-append-drop, append_assoc, append-nil, append_cancel_left}
 use Rattle.std.proofs.lemmas.List.Elements.{All-head, All-tail, All-drop}
 use Rattle.std.proofs.lemmas.Bool.{cases_lt, cases_eq}
-use Rattle.std.specs.List.{All}
+use Rattle.std.specs.List.{All, enumerate_from}
 use Rattle.mg_frame.specs.BigEndian.{AreBytes, big_endian}
 use Rattle.mg_frame.proofs.BigEndianLaws.{AreBytes-drop}
-use Rattle.mg_frame.specs.Frame.{digest, covered, frame, said_length, said_number, said_digest, true_digest, IsEntry, BeginsWithNone}
+use Rattle.mg_frame.specs.Frame.{digest, covered, frame, said_length, said_number, said_digest, true_digest, IsEntry, BeginsWithNone, NoFrame}
 use Rattle.mg_frame.proofs.FrameLaws.{length-frame, said_length-frame, said_number-frame, whole_spelled, none_if_short, none_if_torn, number_fits, length_fits, covered_parts, frame_covered}
-use Rattle.mg_frame.specs.Frames.{frames, NoChance, TornLogLaw, OneReadingLaw}
+use Rattle.mg_frame.specs.Frames.{frames, NoChance, TornLogLaw, OneReadingLaw, NoneOfAnyLaw, OneNumberedReadingLaw, FrontChanceLaw, MoreChanceLaw}
 
 -- ---- one reading
 
@@ -58,6 +58,36 @@ OneReading (entry ∷ entries) (other ∷ others) rest rest' fits fits' same non
   where
     pair_same : (a b : ℕ × List ℕ) → a.0 ≡ b.0 → a.1 ≡ b.1 → a ≡ b
     pair_same (a0, a1) (b0, b1) first second = cc
+
+-- ---- a log of frames with numbers that rise by one
+
+pub NoneOfAny : NoneOfAnyLaw
+unfolding BeginsWithNone NoFrame
+NoneOfAny number bytes number_fits none = λ body rest body_fits is. none (number, body) rest (record { number_fits = number_fits; body_fits = body_fits }) is
+
+pub OneNumberedReading : OneNumberedReadingLaw
+unfolding frames NoFrame
+OneNumberedReading number [] [] rest rest' fits fits' bodies bodies' same none none' = (refl, same)
+OneNumberedReading number [] (other ∷ others) rest rest' fits fits' bodies bodies' same none none' =
+    let zero_more : number + length {A = List ℕ} [] ≡ number = omega arith in
+    absurd (subst (λ (n : ℕ). NoFrame n rest) zero_more none other (frames (enumerate_from (number + 1) others) ++ rest') (All-head (λ body. length body < 2 ^ 32) other others bodies')
+    (same ∙ append_assoc (frame number other) (frames (enumerate_from (number + 1) others)) rest'))
+OneNumberedReading number (body ∷ one) [] rest rest' fits fits' bodies bodies' same none none' =
+    let zero_more : number + length {A = List ℕ} [] ≡ number = omega arith in
+    absurd (subst (λ (n : ℕ). NoFrame n rest') zero_more none' body (frames (enumerate_from (number + 1) one) ++ rest) (All-head (λ body. length body < 2 ^ 32) body one bodies)
+    (sym same ∙ append_assoc (frame number body) (frames (enumerate_from (number + 1) one)) rest))
+OneNumberedReading number (body ∷ one) (body' ∷ other) rest rest' fits fits' bodies bodies' same none none' =
+    let small : number < 2 ^ 64 = omega arith in
+    let first = same_frame (number, body) (number, body') (frames (enumerate_from (number + 1) one) ++ rest) (frames (enumerate_from (number + 1) other) ++ rest')
+    (record { number_fits = small; body_fits = All-head (λ body. length body < 2 ^ 32) body one bodies })
+    (record { number_fits = small; body_fits = All-head (λ body. length body < 2 ^ 32) body' other bodies' })
+    (sym (append_assoc (frame number body) (frames (enumerate_from (number + 1) one)) rest) ∙ same ∙ append_assoc (frame number body') (frames (enumerate_from (number + 1) other)) rest') in
+    let one_more : number + length (body ∷ one) ≡ (number + 1) + length one = omega arith in
+    let one_more' : number + length (body' ∷ other) ≡ (number + 1) + length other = omega arith in
+    let more = OneNumberedReading (number + 1) one other rest rest' (omega arith) (omega arith)
+    (All-tail (λ body. length body < 2 ^ 32) body one bodies) (All-tail (λ body. length body < 2 ^ 32) body' other bodies') first.after
+    (subst (λ (n : ℕ). NoFrame n rest) one_more none) (subst (λ (n : ℕ). NoFrame n rest') one_more' none') in
+    (ap (λ b. b ∷ one) first.body ∙ ap (λ bs. body' ∷ bs) more.0, more.1)
 
 -- ---- whether a whole frame begins the bytes
 
@@ -174,3 +204,38 @@ TornLog entries image tail least fits small within is short sure =
         then_none = more.then_none;
       },
     )
+
+-- ---- what a front of the written bytes says of chance
+
+-- a list that begins the whole begins its front, where that is long enough
+begins_front : (front rest begins more : List ℕ) → length begins ≤ length front → front ++ rest ≡ begins ++ more → front ≡ begins ++ drop (length begins) front
+begins_front front rest begins more fits is =
+    let n = length begins in
+    let head : take n front ≡ begins = sym (take-append-le n front rest fits) ∙ ap (take n) is ∙ take_at begins more n refl in
+    sym (take-append-drop n front) ∙ ap (λ xs. xs ++ drop n front) head
+
+pub FrontChance : FrontChanceLaw
+unfolding NoChance
+FrontChance image front rest short sure = λ at entry here.
+    let size = length (frame entry.0 entry.1) in
+    let whole = sure at entry here in
+    let left : length image - at ≡ size + length here.rest = sym (length-drop at image) ∙ ap length here.spelled ∙ length-append (frame entry.0 entry.1) here.rest in
+    let some : 20 ≤ size = omega (arith, length-frame entry.0 entry.1) in
+    let split : drop at front ++ rest ≡ frame entry.0 entry.1 ++ whole.rest = sym (drop-append-le at front rest (omega arith)) ∙ whole.spelled in
+    record {
+      fits = here.fits;
+      rest = drop size (drop at front);
+      spelled = begins_front (drop at front) rest (frame entry.0 entry.1) whole.rest (omega (arith, length-drop at front)) split;
+    }
+
+pub MoreChance : MoreChanceLaw
+unfolding NoChance
+MoreChance image front rest sure = λ at entry here.
+    let there = sure at entry here in
+    let left : length front - at ≡ length (frame entry.0 entry.1) + length there.rest = sym (length-drop at front) ∙ ap length there.spelled ∙ length-append (frame entry.0 entry.1) there.rest in
+    let some : 20 ≤ length (frame entry.0 entry.1) = omega (arith, length-frame entry.0 entry.1) in
+    record {
+      fits = here.fits;
+      rest = there.rest ++ rest;
+      spelled = drop-append-le at front rest (omega arith) ∙ ap (λ xs. xs ++ rest) there.spelled ∙ append_assoc (frame entry.0 entry.1) there.rest rest;
+    }

@@ -33,13 +33,13 @@ said_digest bytes = big_endian_value (take 8 (drop (said_length bytes + 12) byte
 unfoldable pub true_digest : List ℕ → ℕ
 true_digest bytes = big_endian_value (digest (take (said_length bytes + 12) bytes))
 
--- the answer for a frame of which all but the digest was found in order, with these bytes left from the place `at` on
+-- the answer for a frame of which all but the digest was found in order, with these bytes left from the offset `at` on
 unfoldable pub compared : List ℕ → ℕ → Taken
 compared left at =
     if said_digest left == true_digest left then Whole (at + 12) (at + 12 + said_length left) (at + 20 + said_length left)
     else Torn (said_digest left) (true_digest left)
 
--- what is found where a frame of the number `asked` should begin, with these bytes left from the place `at` on
+-- what is found where a frame of the number `asked` should begin, with these bytes left from the offset `at` on
 unfoldable pub judged : List ℕ → ℕ → ℕ → Taken
 judged left at asked =
     if length left == 0 then End
@@ -48,7 +48,7 @@ judged left at asked =
     else (if said_number left == asked then compared left at
     else Number (said_number left) asked)))
 
--- what is found at the place `at`, where a frame of the number `asked` should begin
+-- what is found at the offset `at`, where a frame of the number `asked` should begin
 unfoldable pub taken : List ℕ → ℕ → ℕ → Taken
 taken bytes at asked = judged (drop at bytes) at asked
 
@@ -65,7 +65,7 @@ pub record IsEntry (entry : ℕ × List ℕ) : Type 0 where
   pub number_fits : entry.0 < 2 ^ 64
   pub body_fits : length entry.1 < 2 ^ 32
 
--- the whole frame of this number and body stands in the bytes at the place `at`
+-- the whole frame of this number and body stands in the bytes at the offset `at`
 pub record StandsAt (bytes : List ℕ) (at : ℕ) (entry : ℕ × List ℕ) : Type 0 where
   pub fits : IsEntry entry
   pub rest : List ℕ
@@ -74,6 +74,10 @@ pub record StandsAt (bytes : List ℕ) (at : ℕ) (entry : ℕ × List ℕ) : Ty
 -- the bytes begin with no whole frame, of whatever number
 unfoldable pub BeginsWithNone : List ℕ → Type 0
 BeginsWithNone bytes = (entry : ℕ × List ℕ) (rest : List ℕ) → IsEntry entry → bytes ≡ frame entry.0 entry.1 ++ rest → ⊥
+
+-- the bytes begin with no whole frame of this number; a log ends there, also where the whole frame of another number stands
+unfoldable pub NoFrame : ℕ → List ℕ → Type 0
+NoFrame number bytes = (body rest : List ℕ) → length body < 2 ^ 32 → bytes ≡ frame number body ++ rest → ⊥
 
 -- what each answer says of the bytes from `at` on
 abbrev pub Means : List ℕ → ℕ → ℕ → Taken → Type 0
@@ -87,3 +91,11 @@ Means bytes at number (Torn kept found) = (kept ≢ found) × BeginsWithNone (dr
 abbrev pub TakesWritten : List ℕ → ℕ → ℕ → Taken → Type 0
 TakesWritten bytes at number answer = (body rest : List ℕ) → length body < 2 ^ 32 → drop at bytes ≡ frame number body ++ rest
     → answer ≡ Whole (at + 12) (at + 12 + length body) (at + 20 + length body)
+
+-- every answer but a whole frame says that none of this number begins there
+abbrev pub EndsLog : List ℕ → ℕ → ℕ → Taken → Type 0
+EndsLog bytes at number (Whole start end next) = Unit {0}
+EndsLog bytes at number End = NoFrame number (drop at bytes)
+EndsLog bytes at number (Short want have) = NoFrame number (drop at bytes)
+EndsLog bytes at number (Number kept asked) = NoFrame number (drop at bytes)
+EndsLog bytes at number (Torn kept found) = NoFrame number (drop at bytes)

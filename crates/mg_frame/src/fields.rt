@@ -1,4 +1,4 @@
-//! Readers and writers of a record's fields. A reader takes the field at a place and answers `None` exactly where too few
+//! Readers and writers of a record's fields. A reader takes the field at an offset and answers `None` exactly where too few
 //! bytes are left; a writer appends the field.
 
 ghost use Rattle.std.specs.Prelude.{◌≡◌, ◌++◌, ◌<◌, ◌≤◌, ◌^◌, length, take, drop, OnOk, OnErr};

@@ -2,19 +2,19 @@
 //! digest (FIPS 180-4) of all that. Numbers are big-endian.
 
 ghost use Rattle.std.specs.Prelude.{◌≡◌, ◌+◌, ◌++◌, ◌<◌, ◌≤◌, ◌^◌, length, OnOk, OnErr};
-ghost use Rattle.mg_frame.specs.Frame.{digest, frame, said_length, compared, judged, taken, Means, TakesWritten};
+ghost use Rattle.mg_frame.specs.Frame.{digest, frame, said_length, compared, judged, taken, Means, TakesWritten, EndsLog};
 
 use crate::fields::{front_u32, front_u64};
 use sha2::{Digest, Sha256};
 use std::alloc::AllocError;
 
-/// How many bytes a frame has more than its body.
+/// How many bytes of a frame stand before its body: the body's length and the frame's number.
+pub const FRAME_HEADER: usize = 12;
+
+/// How many bytes a frame has more than its body: the header, and the digest after the body.
 pub const FRAME_OVERHEAD: usize = 20;
 
-/// The bytes before the body.
-const HEADER: usize = 12;
-
-/// What stands at a place where a frame should begin. The tests are made in the order of `End`, `Short`, `Number`, `Torn`.
+/// What stands at an offset where a frame should begin. The tests are made in the order of `End`, `Short`, `Number`, `Torn`.
 #[derive(Clone, Copy, Debug, PartialEq, Eq)]
 pub enum Taken {
     /// The frame's body is from `start` to `end`, and what follows the frame begins at `next`.
@@ -71,13 +71,13 @@ fn judge_digest(left: &[u8], at: usize, body: usize) -> Taken
     requires whole { body + FRAME_OVERHEAD ≤ length left.now }
     ensures { result ≡ compared left.now at }
 {
-    let (covered, rest) = left.split_at(HEADER + body);
+    let (covered, rest) = left.split_at(FRAME_HEADER + body);
     let kept = front_u64(rest);
     let found = u64::from_be_bytes(digest(covered));
     if kept != found {
         return Taken::Torn { kept, found };
     }
-    let start = at + HEADER;
+    let start = at + FRAME_HEADER;
     Taken::Whole {
         start,
         end: start + body,
@@ -85,7 +85,7 @@ fn judge_digest(left: &[u8], at: usize, body: usize) -> Taken
     }
 }
 
-/// Judges the frame that `left` begins with, where `left` is what remains from the place `at` on.
+/// Judges the frame that `left` begins with, where `left` is what remains from the offset `at` on.
 #[tactic(auto, unfolding(crate::specs::Frame::judged, crate::specs::Frame::said_length, crate::specs::Frame::said_number))]
 fn judge(left: &[u8], at: usize, number: u64) -> Taken
     requires { at + length left.now < 2 ^ 63 }
@@ -95,8 +95,8 @@ fn judge(left: &[u8], at: usize, number: u64) -> Taken
     if left.is_empty() {
         return Taken::End;
     }
-    if left.len() < HEADER {
-        let want = HEADER as u64;
+    if left.len() < FRAME_HEADER {
+        let want = FRAME_HEADER as u64;
         return Taken::Short { want, have };
     }
     let body = front_u32(left) as usize;
@@ -118,6 +118,7 @@ pub fn take_frame(bytes: &[u8], at: usize, number: u64) -> Taken
     ensures exact { result ≡ taken bytes.now at number }
     ensures meaning { Means bytes.now at number result }
     ensures written { TakesWritten bytes.now at number result }
+    ensures ends { EndsLog bytes.now at number result }
 {
     judge(&bytes[at..], at, number)
 }

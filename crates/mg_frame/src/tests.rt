@@ -75,5 +75,10 @@ fn fields_are_written_and_read(rt: HostRuntime) -> Result<(), Fail> {
     assert!(rt; get_long(&out, 19) == Some(b"document"));
     assert!(rt; get_long(&out, 20).is_none());
     assert!(rt; get_u8(&out, 31).is_none());
+
+    let (number, after) = split_u16(&out[1..]).ok_or("no number")?;
+    assert!(rt; number == 0x0102 && after == &out[3..]);
+    let (list, after) = split_long(&out[19..]).ok_or("no list")?;
+    assert!(rt; list == b"document".as_slice() && after.is_empty());
     Ok(())
 }

@@ -1,7 +1,7 @@
 use Rattle.std.proofs.lemmas.List.{take_rest}
 use Rattle.mg_frame.specs.Frame.{taken}
 use Rattle.mg_frame.proofs.BigEndianLaws.{AreBytes-from_reads}
-use Rattle.mg_frame.proofs.FrameLaws.{Means-taken, TakesWritten-taken}
+use Rattle.mg_frame.proofs.FrameLaws.{Means-taken, TakesWritten-taken, EndsLog-taken}
 use Rattle.mg_frame.proofs.frame.take_frame.Goals as goal
 
 pub returns-clause-exact : goal.returns-clause-exact
@@ -13,3 +13,6 @@ returns-clause-meaning c = rw (returns-clause-exact c) (Means-taken c.args.bytes
 
 pub returns-clause-written : goal.returns-clause-written
 returns-clause-written c = rw (returns-clause-exact c) (TakesWritten-taken c.args.bytes.now c.args.at c.args.number c.ranges.number.fits)
+
+pub returns-clause-ends : goal.returns-clause-ends
+returns-clause-ends c = EndsLog-taken c.args.bytes.now c.args.at c.args.number _ (returns-clause-written c)
