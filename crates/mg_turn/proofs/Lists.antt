@@ -5,7 +5,7 @@ use mathlib.Core.List.{map-append}
 use mathlib.Core.Option.{some, some-injective, some-ne-none}
 use mathlib.Core.Logic.{dite}
 use native.Mathlib.Decide.{ℕ_discrete}
-use borrow.Author.Tests.{ltb-true, ltb-false, eq-eqb}
+use borrow.Author.Tests.{ltb-true, ltb-false, eqb-true, eq-eqb}
 use lib.ListN.{get_elem?}
 use Rattle.mg_turn.specs.History.{IsPrefix, calls_by, longer, shorter, total, times_among, AreCalls, NoOthers, calls_in}
 
@@ -164,3 +164,34 @@ module _ {E : Type 0} where
 
   pub all_counted : (log : List (ℕ × E)) (os : List (ℕ × List E)) → AreCalls log os → ((c : ℕ) → times_among c os ≤ 1) → NoOthers log os → length log ≡ calls_in os
   all_counted log os calls most none = sym (same_lengths log os calls ∙ all_by_caller os log most none)
+
+  -- a caller whose calls are as many as the entries made all of them
+  fewer_or_as_many : (c : ℕ) (log : List (ℕ × E)) → length (calls_by c log) ≤ length log
+  fewer_or_as_many c [] = omega arith
+  fewer_or_as_many c (x ∷ xs) =
+      let a = counted_one x (filter (λ (y : ℕ × E). eqb y.0 c) xs) (eqb x.0 c) in
+      let b = at_most (eqb x.0 c) in
+      let h = fewer_or_as_many c xs in omega arith
+    where
+      at_most : (b : Bool) → cond {A = ℕ} b 1 0 ≤ 1
+      at_most true = omega arith
+      at_most false = omega arith
+
+  pub all_of_one : (c : ℕ) (log : List (ℕ × E)) → length (calls_by c log) ≡ length log → log ≡ map (λ (e : E). (c, e)) (calls_by c log)
+  all_of_one c [] all = refl
+  all_of_one c (x ∷ xs) all = step (all_of_one c xs) (eqb x.0 c) refl
+    where
+      rest : List (ℕ × E)
+      rest = filter (λ (y : ℕ × E). eqb y.0 c) xs
+
+      step : (length (calls_by c xs) ≡ length xs → xs ≡ map (λ (e : E). (c, e)) (calls_by c xs)) → (b : Bool) → eqb x.0 c ≡ b → x ∷ xs ≡ map (λ (e : E). (c, e)) (calls_by c (x ∷ xs))
+      step others true t =
+          let same : x.0 ≡ c = eqb-true x.0 c t in
+          let a = counted_one x rest (eqb x.0 c) in
+          let one = ap (λ (b : Bool). cond {A = ℕ} b 1 0) t in
+          let tail = others (omega arith) in
+          ap (λ (n : ℕ). (n, x.1) ∷ xs) same ∙ ap (λ (ys : List (ℕ × E)). (c, x.1) ∷ ys) tail ∙ ap (λ (b : Bool). map (λ (e : E). (c, e)) (map (λ (y : ℕ × E). y.1) (cond b (x ∷ rest) rest))) (sym t)
+      step others false t =
+          let a = counted_one x rest (eqb x.0 c) in
+          let none = ap (λ (b : Bool). cond {A = ℕ} b 1 0) t in
+          let h = fewer_or_as_many c xs in absurd (omega arith)

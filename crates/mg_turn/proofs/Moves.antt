@@ -1,5 +1,5 @@
 -- Each step on a turn's table keeps the rule.
-use Rattle.std.proofs.Common.{◌≡◌, ◌≢◌, ◌⊎◌, ℕ, ◌+◌, ◌≤◌, ◌<◌, List, [], ◌∷◌, ◌++◌, Bool, true, false, cond, eqb, length, set, get_or, refl, ap, sym, subst, ◌∙◌, arith, inl, inr, ⊎_elim, length-append, ne_eqb}
+use Rattle.std.proofs.Common.{◌≡◌, ◌≢◌, ◌⊎◌, ℕ, zero, suc, ◌+◌, ◌≤◌, ◌<◌, List, [], ◌∷◌, ◌++◌, Bool, true, false, cond, eqb, length, set, get_or, refl, ap, sym, subst, ◌∙◌, arith, inl, inr, ⊎_elim, length-append, ne_eqb}
 use mathlib.Core.Option.{Option, some, none, some-injective}
 use mathlib.Core.Logic.{dite}
 use native.Mathlib.Decide.{ℕ_discrete}
@@ -7,7 +7,7 @@ use borrow.Author.Tests.{eq-eqb}
 use lib.ListN.{get_elem?}
 use prog.Atomic.{either}
 use Rattle.std.specs.declared.snapshot.Snapshot.{Snapshot}
-use Rattle.atomic_table.specs.Table.{State, Me, step, Act, keeps, takes, gives, Valid, stepped, carried_after, Allows, Splits, Joins, Seen, Final, opening}
+use Rattle.atomic_table.specs.Table.{State, Me, Step, step, Act, keeps, takes, gives, Valid, stepped, carried_after, Allows, Splits, Joins, Seen, Final, opening}
 use Rattle.atomic_table.proofs.Lists.{set_again, set_else, at_longer}
 use Rattle.mg_turn.specs.declared.state.Counts.{Counts}
 use Rattle.mg_turn.specs.declared.rule.Hold.{Hold}
@@ -70,6 +70,7 @@ module _ {T E : Type 0} (stands : ℕ → List (ℕ × E) → T → Type 0) (cou
         (
           q.1.0,
           record {
+            waited = r.waited;
             words = r.words;
             view = set_else s.views id q.0 w (λ z. n (sym z)) ∙ r.view;
             live = r.live;
@@ -100,6 +101,7 @@ module _ {T E : Type 0} (stands : ℕ → List (ℕ × E) → T → Type 0) (cou
         (
           q.1.0,
           record {
+            waited = r.waited;
             words = r.words;
             view = at_longer s.views (w ∷ []) q.0 q.1.0 r.view;
             live = r.live;
@@ -115,9 +117,10 @@ module _ {T E : Type 0} (stands : ℕ → List (ℕ × E) → T → Type 0) (cou
   unmoved : (ws : List ℕ) (hs : List (Option (Slot T E))) (vs : List (View E)) (id : ℕ) (v : View E) → get_elem? vs id ≡ some v → Rule (at ws hs vs) → Rule (at ws hs (set vs id v))
   unmoved ws hs vs id v here r = subst (λ (xs : List (View E)). Rule (at ws hs xs)) (sym (set_again vs id v here)) r
 
-  take_free : (log : List (ℕ × E)) (vs : List (View E)) (id : ℕ) (v : View E) (st : T) → get_elem? vs id ≡ some v → 0 < v.parts → IsKept o.first log vs → stands o.first log st → EachLive vs (λ j u. IsQuiet (counts st) u)
-      → Goes id (v, []) 0 (λ n. either (eqb n 0) 1 n) (took stands counts (step 1 0 0 1 none) (v, [])) (at (0 ∷ length log ∷ []) (some (Full st) ∷ []) vs)
-  take_free log vs id v st here live k good quiet =
+  -- the turn is taken by any step that leaves another number than 0 in the word
+  take_free : (log : List (ℕ × E)) (vs : List (View E)) (id : ℕ) (v : View E) (st : T) (x : Step (Slot T E)) (f : ℕ → ℕ) (b : ℕ) → f 0 ≡ suc b → get_elem? vs id ≡ some v → 0 < v.parts → IsKept o.first log vs → stands o.first log st → EachLive vs (λ j u. IsQuiet (counts st) u)
+      → Goes id (v, []) 0 f (took stands counts x (v, [])) (at (0 ∷ length log ∷ []) (some (Full st) ∷ []) vs)
+  take_free log vs id v st x f b leaves here live k good quiet =
       let w : View E = taken v log (counts st) in
       let fit = k.fits id v here live in (
         w,
@@ -132,7 +135,8 @@ module _ {T E : Type 0} (stands : ℕ → List (ℕ × E) → T → Type 0) (cou
               (
                 w,
                 record {
-                  words = refl;
+                  waited = b;
+                  words = ap (λ (n : ℕ). n ∷ length log ∷ []) leaves;
                   view = set_at vs id v w here;
                   live = live;
                   seen = refl;
@@ -143,19 +147,30 @@ module _ {T E : Type 0} (stands : ℕ → List (ℕ × E) → T → Type 0) (cou
             ),
           ),
         ),
-        ((λ n. absurd (n refl)), (λ _. (log, (st, refl, subst (λ (n : ℕ). stands n log st) (sym fit.first_is) good, fit.seen, (quiet id v here live).1)))),
+        ((λ n. absurd (n refl)), (λ _. (log, (st, refl, subst (λ (n : ℕ). stands n log st) (sym fit.first_is) good, fit.seen, (quiet id v here live).1, fit.calls)))),
       )
 
-  take_held : (log : List (ℕ × E)) (hs : List (Option (Slot T E))) (vs : List (View E)) (id : ℕ) (v : View E) → get_elem? vs id ≡ some v → Rule (at (1 ∷ length log ∷ []) hs vs)
-      → Goes id (v, []) 0 (λ n. either (eqb n 0) 1 n) (took stands counts (step 1 0 0 1 none) (v, [])) (at (1 ∷ length log ∷ []) hs vs)
-  take_held log hs vs id v here r = (v, keeps, tt, unmoved (1 ∷ length log ∷ []) hs vs id v here r, ((λ _. refl), (λ e. absurd (omega arith))))
+  -- where the turn is taken already, only the word may change
+  take_held : (log : List (ℕ × E)) (hs : List (Option (Slot T E))) (vs : List (View E)) (id j : ℕ) (v u : View E) (x : Step (Slot T E)) (f : ℕ → ℕ) (a b : ℕ) → f (suc a) ≡ suc b → get_elem? vs id ≡ some v → IsKept o.first log vs → IsHeld log (at (suc a ∷ length log ∷ []) hs vs) j u
+      → Goes id (v, []) 0 f (took stands counts x (v, [])) (at (suc a ∷ length log ∷ []) hs vs)
+  take_held log hs vs id j v u x f a b leaves here k r = (
+    v,
+    keeps,
+    tt,
+    subst (λ (xs : List (View E)). Rule (at (f (suc a) ∷ length log ∷ []) hs xs)) (sym (set_again vs id v here)) (
+      log,
+      (k, inr (j, (u, record { waited = b; words = ap (λ (n : ℕ). n ∷ length log ∷ []) leaves; view = r.view; live = r.live; seen = r.seen; slot = r.slot; others = r.others }))),
+    ),
+    ((λ _. refl), (λ e. absurd (omega arith))),
+  )
 
-  pub takes_turn : (id : ℕ) (v : View E) → 0 < v.parts → Allows Rule 1 id (v, []) 0 (λ n. either (eqb n 0) 1 n) (took stands counts (step 1 0 0 1 none) (v, []))
-  takes_turn id v live s h len here small = ⊎_elim
+  pub takes_turn : (id : ℕ) (v : View E) (x : Step (Slot T E)) (f : ℕ → ℕ) → ((n : ℕ) → (b : ℕ) × (f n ≡ suc b)) → 0 < v.parts → Allows Rule 1 id (v, []) 0 f (took stands counts x (v, []))
+  takes_turn id v x f sets live s h len here small = ⊎_elim
       (λ (r : IsFree stands counts o.first h.0 s). let is : s ≡ at (0 ∷ length h.0 ∷ []) (some (Full r.state) ∷ []) s.views = (λ i. record { words = r.words i; homes = r.home i; views = s.views }) in
-      subst (Goes id (v, []) 0 (λ n. either (eqb n 0) 1 n) (took stands counts (step 1 0 0 1 none) (v, []))) (sym is) (take_free h.0 s.views id v r.state here live h.1.0 r.stands_for r.quiet))
-      (λ (q : (j : ℕ) × ((u : View E) × IsHeld h.0 s j u)). let r : IsHeld h.0 s q.0 q.1.0 = q.1.1 in let is : s ≡ at (1 ∷ length h.0 ∷ []) s.homes s.views = (λ i. record { words = r.words i; homes = s.homes; views = s.views }) in
-      subst (Goes id (v, []) 0 (λ n. either (eqb n 0) 1 n) (took stands counts (step 1 0 0 1 none) (v, []))) (sym is) (take_held h.0 s.homes s.views id v here (subst Rule is h)))
+      subst (Goes id (v, []) 0 f (took stands counts x (v, []))) (sym is) (take_free h.0 s.views id v r.state x f (sets 0).0 (sets 0).1 here live h.1.0 r.stands_for r.quiet))
+      (λ (q : (j : ℕ) × ((u : View E) × IsHeld h.0 s j u)). let r : IsHeld h.0 s q.0 q.1.0 = q.1.1 in let is : s ≡ at (suc r.waited ∷ length h.0 ∷ []) s.homes s.views = (λ i. record { words = r.words i; homes = s.homes; views = s.views }) in
+      let set_to = sets (suc r.waited) in
+      subst (Goes id (v, []) 0 f (took stands counts x (v, []))) (sym is) (take_held h.0 s.homes s.views id q.0 v q.1.0 x f r.waited set_to.0 set_to.1 here h.1.0 (subst (λ (t : St). IsHeld h.0 t q.0 q.1.0) is r)))
       h.1.1
 
   -- the holder's view changes in how it holds the turn
@@ -174,6 +189,7 @@ module _ {T E : Type 0} (stands : ℕ → List (ℕ × E) → T → Type 0) (cou
             (
               w,
               record {
+                waited = r.waited;
                 words = r.words;
                 view = set_at vs id v w r.view;
                 live = subst (λ (n : ℕ). 0 < n) (sym parts) r.live;
@@ -193,13 +209,13 @@ module _ {T E : Type 0} (stands : ℕ → List (ℕ × E) → T → Type 0) (cou
   puts_back id v live out s h len here small =
       let r = holder h.0 s id v here live (λ e. absurd (cc (e, out))) h.1.1 in
       let gone : s.homes ≡ none ∷ [] = subst (λ (x : Hold). SlotOf {T = T} {E = E} x s.homes) out r.slot in
-      let is : s ≡ at (1 ∷ length h.0 ∷ []) (none ∷ []) s.views = (λ i. record { words = r.words i; homes = gone i; views = s.views }) in
+      let is : s ≡ at (suc r.waited ∷ length h.0 ∷ []) (none ∷ []) s.views = (λ i. record { words = r.words i; homes = gone i; views = s.views }) in
       let w : View E = record v { hold = Home } in
       subst (Goes id (v, (0, Empty) ∷ []) 0 (λ n. n) (put_back (step 1 0 0 0 none) (v, (0, Empty) ∷ []))) (sym is) (
         w,
         gives,
         tt,
-        held_again h.0 (1 ∷ length h.0 ∷ []) (none ∷ []) (some Empty ∷ []) s.views id v w h.1.0 (subst (λ (t : St). IsHeld h.0 t id v) is r) refl refl (λ c. refl) refl refl refl refl refl refl,
+        held_again h.0 (suc r.waited ∷ length h.0 ∷ []) (none ∷ []) (some Empty ∷ []) s.views id v w h.1.0 (subst (λ (t : St). IsHeld h.0 t id v) is r) refl refl (λ c. refl) refl refl refl refl refl refl,
         refl,
       )
 
@@ -207,13 +223,13 @@ module _ {T E : Type 0} (stands : ℕ → List (ℕ × E) → T → Type 0) (cou
   takes_back id v live home s h len here small =
       let r = holder h.0 s id v here live (λ e. absurd (cc (e, home))) h.1.1 in
       let there : s.homes ≡ some Empty ∷ [] = subst (λ (x : Hold). SlotOf {T = T} {E = E} x s.homes) home r.slot in
-      let is : s ≡ at (1 ∷ length h.0 ∷ []) (some Empty ∷ []) s.views = (λ i. record { words = r.words i; homes = there i; views = s.views }) in
+      let is : s ≡ at (suc r.waited ∷ length h.0 ∷ []) (some Empty ∷ []) s.views = (λ i. record { words = r.words i; homes = there i; views = s.views }) in
       let w : View E = record v { hold = Out } in
       subst (Goes id (v, []) 0 (λ n. n) (took_back (step 1 0 0 0 none) (v, []))) (sym is) (
         w,
         takes 0 Empty,
         refl,
-        held_again h.0 (1 ∷ length h.0 ∷ []) (some Empty ∷ []) (none ∷ []) s.views id v w h.1.0 (subst (λ (t : St). IsHeld h.0 t id v) is r) refl refl (λ c. refl) refl refl refl refl refl refl,
+        held_again h.0 (suc r.waited ∷ length h.0 ∷ []) (some Empty ∷ []) (none ∷ []) s.views id v w h.1.0 (subst (λ (t : St). IsHeld h.0 t id v) is r) refl refl (λ c. refl) refl refl refl refl refl refl,
         refl,
       )
 
@@ -241,17 +257,17 @@ module _ {T E : Type 0} (stands : ℕ → List (ℕ × E) → T → Type 0) (cou
         ),
       )
 
-  counted_words : (n : ℕ) (log : List (ℕ × E)) (c : ℕ) (e : E) → length log ≡ n → 1 ∷ either (eqb (length log) n) (n + 1) (length log) ∷ [] ≡ 1 ∷ length (log ++ (c, e) ∷ []) ∷ []
-  counted_words n log c e is = let same : eqb (length log) n ≡ true = eq-eqb (length log) n is in
+  counted_words : (k n : ℕ) (log : List (ℕ × E)) (c : ℕ) (e : E) → length log ≡ n → k ∷ either (eqb (length log) n) (n + 1) (length log) ∷ [] ≡ k ∷ length (log ++ (c, e) ∷ []) ∷ []
+  counted_words k n log c e is = let same : eqb (length log) n ≡ true = eq-eqb (length log) n is in
       let grown : n + 1 ≡ length (log ++ (c, e) ∷ []) = omega (arith, length-append log ((c, e) ∷ [])) in
-      ap (λ (b : Bool). 1 ∷ either b (n + 1) (length log) ∷ []) same ∙ ap (λ (m : ℕ). 1 ∷ m ∷ []) grown
+      ap (λ (b : Bool). k ∷ either b (n + 1) (length log) ∷ []) same ∙ ap (λ (m : ℕ). k ∷ m ∷ []) grown
 
   pub counts_one : (id : ℕ) (v : View E) (n : ℕ) (e : Snapshot E) → 0 < v.parts → v.hold ≡ Home → n ≡ length v.seen
       → Steps id (v, []) 1 (λ m. either (eqb m n) (n + 1) m) (counted (step 1 1 n (n + 1) (some (Note e))) (v, []))
   counts_one id v n e live home is_n s h len here small =
       let log : List (ℕ × E) = h.0 in
       let r = holder log s id v here live (λ z. absurd (cc (z, home))) h.1.1 in
-      let is : s ≡ at (1 ∷ length log ∷ []) s.homes s.views = (λ i. record { words = r.words i; homes = s.homes; views = s.views }) in
+      let is : s ≡ at (suc r.waited ∷ length log ∷ []) s.homes s.views = (λ i. record { words = r.words i; homes = s.homes; views = s.views }) in
       let new : List (ℕ × E) = log ++ (v.caller, e.value) ∷ [] in
       let w : View E = entered v e.value in
       let long : length log ≡ n = ap length (sym r.seen) ∙ sym is_n in
@@ -268,7 +284,8 @@ module _ {T E : Type 0} (stands : ℕ → List (ℕ × E) → T → Type 0) (cou
               (
                 w,
                 record {
-                  words = counted_words n log v.caller e.value long;
+                  waited = r.waited;
+                  words = counted_words (suc r.waited) n log v.caller e.value long;
                   view = set_at s.views id v w here;
                   live = live;
                   seen = ap (λ (xs : List (ℕ × E)). xs ++ (v.caller, e.value) ∷ []) r.seen;
@@ -288,7 +305,7 @@ module _ {T E : Type 0} (stands : ℕ → List (ℕ × E) → T → Type 0) (cou
       let log : List (ℕ × E) = h.0 in
       let r = holder log s id v here live (λ z. absurd (cc (z, out))) h.1.1 in
       let gone : s.homes ≡ none ∷ [] = subst (λ (x : Hold). SlotOf {T = T} {E = E} x s.homes) out r.slot in
-      let is : s ≡ at (1 ∷ length log ∷ []) (none ∷ []) s.views = (λ i. record { words = r.words i; homes = gone i; views = s.views }) in
+      let is : s ≡ at (suc r.waited ∷ length log ∷ []) (none ∷ []) s.views = (λ i. record { words = r.words i; homes = gone i; views = s.views }) in
       let fit = h.1.0.fits id v here live in
       let w : View E = record v { counts = counts st; hold = Free } in
       subst (Goes id (v, (0, Full st) ∷ []) 0 (λ _. 0) (gave counts (step 1 0 0 0 none) (v, (0, Full st) ∷ []))) (sym is) (
@@ -364,6 +381,7 @@ module _ {T E : Type 0} (stands : ℕ → List (ℕ × E) → T → Type 0) (cou
             (
               q.1.0,
               record {
+                waited = r.waited;
                 words = r.words;
                 view = set_else s.views id q.0 (joined v u) (λ z. n (sym z)) ∙ r.view;
                 live = r.live;
@@ -454,8 +472,16 @@ module _ {T E : Type 0} (stands : ℕ → List (ℕ × E) → T → Type 0) (cou
   onto : (F : ℕ → M → Type 0) (n : ℕ) (m : M) (slots : List (ℕ × Slot T E)) → n ≡ 1 → m.1 ≡ slots → F 1 (m.0, slots) → F n m
   onto F n m slots one is f = subst (λ (x : ℕ × M). F x.0 x.1) (λ i. (sym one i, (m.0, sym is i))) f
 
+  -- 1 is put in the word where 0 stands
+  one_or_kept : (n : ℕ) → (b : ℕ) × (either (eqb n 0) 1 n ≡ suc b)
+  one_or_kept zero = (0, refl)
+  one_or_kept (suc n) = (n, ap (λ (b : Bool). either b 1 (suc n)) (ne_eqb (suc n) 0 (λ e. omega arith)))
+
   pub try_takes : (n id : ℕ) (m : M) → n ≡ 1 → m.1 ≡ [] → 0 < m.0.parts → Allows Rule n id m 0 (λ k. either (eqb k 0) 1 k) (took stands counts (step n 0 0 1 none) m)
-  try_takes n id m one is live = onto (λ k x. Allows Rule k id x 0 (λ j. either (eqb j 0) 1 j) (took stands counts (step k 0 0 1 none) x)) n m [] one is (takes_turn id m.0 live)
+  try_takes n id m one is live = onto (λ k x. Allows Rule k id x 0 (λ j. either (eqb j 0) 1 j) (took stands counts (step k 0 0 1 none) x)) n m [] one is (takes_turn id m.0 (step 1 0 0 1 none) (λ k. either (eqb k 0) 1 k) one_or_kept live)
+
+  pub waits_takes : (n id : ℕ) (m : M) → n ≡ 1 → m.1 ≡ [] → 0 < m.0.parts → Allows Rule n id m 0 (λ _. 2) (took stands counts (step n 0 2 0 none) m)
+  waits_takes n id m one is live = onto (λ k x. Allows Rule k id x 0 (λ _. 2) (took stands counts (step k 0 2 0 none) x)) n m [] one is (takes_turn id m.0 (step 1 0 2 0 none) (λ _. 2) (λ _. (1, refl)) live)
 
   pub empty_goes : (n id : ℕ) (m : M) → n ≡ 1 → m.1 ≡ (0, Empty) ∷ [] → 0 < m.0.parts → m.0.hold ≡ Out → Allows Rule n id m 0 (λ k. k) (put_back (step n 0 0 0 none) m)
   empty_goes n id m one is live out = onto (λ k x. Allows Rule k id x 0 (λ j. j) (put_back (step k 0 0 0 none) x)) n m ((0, Empty) ∷ []) one is (puts_back id m.0 live out)

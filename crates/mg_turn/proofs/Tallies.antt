@@ -1,7 +1,8 @@
 -- What two callers of a tally leave.
-use Rattle.std.proofs.Common.{◌≡◌, ℕ, ◌+◌, ◌*◌, ◌≤◌, List, [], ◌∷◌, length, ap, subst, ◌∙◌, arith, inl, inr}
+use Rattle.std.proofs.Common.{◌≡◌, ℕ, ◌+◌, ◌*◌, ◌≤◌, List, [], ◌∷◌, ◌++◌, length, map, ap, sym, subst, ◌∙◌, arith, inl, inr}
 use Rattle.atomic_table.specs.Seated.{TableId}
 use Rattle.mg_turn.specs.History.{calls_by, AreCalls, calls_in}
+use Rattle.mg_turn.proofs.Lists.{all_of_one}
 use Rattle.mg_turn.specs.Passes.{PassState, AfterCalls, IsDoneOrFull, own_calls, first_pass, pass_after, met_with}
 
 pub all_done : {E : Type 0} (times : ℕ) (p : PassState E) (entered : ℕ) → IsDoneOrFull times p entered → times ≤ entered → entered ≡ times
@@ -40,3 +41,14 @@ counted_by_two times turn one two p q end m n is_one is_two of_p of_q le_m le_n 
     let ones : length p.calls ≡ times = omega (arith, of_p.0.calls, none0, all_done times p m of_p.1 le_m) in
     let twos : length q.calls ≡ times = omega (arith, of_q.0.calls, none1, all_done times q n of_q.1 le_n) in
     of_two times end.seen p.calls q.calls ones twos (subst (AreCalls end.seen) own calls) (counted ∙ ap calls_in own)
+
+-- where one caller made two calls and the other one none, the history is the two calls
+pub two_of_one : (end p q : PassState ℕ) → end ≡ record (met_with p q) { parts = 0 }
+    → p.caller ≡ 0 → p.calls ≡ 7 ∷ 8 ∷ [] → p.met ≡ [] → q.calls ≡ [] → q.met ≡ []
+    → AreCalls end.seen (own_calls end) → length end.seen ≡ calls_in (own_calls end)
+    → end.seen ≡ (0, 7) ∷ (0, 8) ∷ []
+two_of_one end p q is caller calls met no_calls no_met made counted =
+    let own : own_calls end ≡ (0, 7 ∷ 8 ∷ []) ∷ (q.caller, []) ∷ [] = ap own_calls is ∙ (λ i. (caller i, calls i) ∷ (met i ++ (q.caller, no_calls i) ∷ no_met i)) in
+    let mine : calls_by 0 end.seen ≡ 7 ∷ 8 ∷ [] = (subst (AreCalls end.seen) own made).0 in
+    let two : length end.seen ≡ 2 = counted ∙ ap calls_in own in
+    all_of_one 0 end.seen (ap length mine ∙ sym two) ∙ ap (map (λ (e : ℕ). (0, e))) mine

@@ -1,5 +1,6 @@
 -- The rule of a turn, and what each step on its table tells.
--- Word 0 is 1 while the turn is taken, word 1 is the number of entries, and slot 0 has the state while the turn is free.
+-- Word 0 is 0 while the turn is free, and another number while it is taken: 1, or 2 where somebody may wait for it. Word 1 is the number of
+-- entries, and slot 0 has the state while the turn is free.
 use Rattle.std.specs.Prelude.{◌≡◌, ◌≢◌, ◌⊎◌, ℕ, zero, suc, ◌+◌, ◌-◌, ◌≤◌, ◌<◌, List, [], ◌∷◌, ◌++◌, length, max}
 use mathlib.Core.Option.{Option, none, some}
 use lib.ListN.{get_elem?}
@@ -115,7 +116,8 @@ module _ {T E : Type 0} where
 
   -- one view holds the turn and has seen all of the history
   pub record IsHeld (history : List (ℕ × E)) (s : State (Slot T E) (View E)) (id : ℕ) (v : View E) : Type 0 where
-    pub words : s.words ≡ 1 ∷ length history ∷ []
+    pub waited : ℕ
+    pub words : s.words ≡ suc waited ∷ length history ∷ []
     pub view : get_elem? s.views id ≡ some v
     pub live : 0 < v.parts
     pub seen : v.seen ≡ history
@@ -126,9 +128,10 @@ module _ {T E : Type 0} where
   Holds stands counts o s = (history : List (ℕ × E)) × (IsKept o.first history s.views
       × (IsFree stands counts o.first history s ⊎ ((id : ℕ) × ((v : View E) × IsHeld history s id v))))
 
-  -- the turn was free, and is taken with its slot: the state there stands for all that happened, which begins with what was seen before
+  -- the turn was free, and is taken with its slot: the state there stands for all that happened, which begins with what was seen before, and in
+  -- which each of the view's own callers made just the calls that the view has
   abbrev pub HasTaken : (ℕ → List (ℕ × E) → T → Type 0) → (T → Counts) → Me (Slot T E) (View E) → Me (Slot T E) (View E) → Type 0
-  HasTaken stands counts m n = (history : List (ℕ × E)) × ((state : T) × (n ≡ (taken m.0 history (counts state), (0, Full state) ∷ [])) × stands m.0.first history state × IsPrefix m.0.seen history × NotAbove m.0.counts (counts state))
+  HasTaken stands counts m n = (history : List (ℕ × E)) × ((state : T) × (n ≡ (taken m.0 history (counts state), (0, Full state) ∷ [])) × stands m.0.first history state × IsPrefix m.0.seen history × NotAbove m.0.counts (counts state) × AreCalls history (own m.0))
 
   -- where the turn was taken already, nothing changes
   abbrev pub took : (ℕ → List (ℕ × E) → T → Type 0) → (T → Counts) → Step (Slot T E) → Me (Slot T E) (View E) → ℕ → Me (Slot T E) (View E) → Type 0

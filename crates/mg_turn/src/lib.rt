@@ -13,7 +13,7 @@ mod turns;
 
 pub use passes::Pass;
 pub use state::{Counts, Stands};
-pub use turns::{Held, Turn};
+pub use turns::{Held, MOST_ENTRIES, Turn};
 
 #[cfg(test)]
 mod tests;

@@ -8,8 +8,17 @@ use std::collections::LinkedList;
 use std::marker::PhantomData;
 use std::snapshot::Snapshot;
 
-/// Word 0: whether the turn is taken.
+/// Word 0: whether the turn is taken, as one of the next three numbers.
 pub(crate) const TURN: usize = 0;
+
+/// Nobody holds the turn.
+pub(crate) const FREE: u64 = 0;
+
+/// The turn is held, and nobody waits for it.
+pub(crate) const HELD: u64 = 1;
+
+/// The turn is held, and somebody may wait for it.
+pub(crate) const AWAITED: u64 = 2;
 
 /// Word 1: how many entries the history has.
 pub(crate) const COUNT: usize = 1;

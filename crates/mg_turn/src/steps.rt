@@ -7,8 +7,8 @@ ghost use Rattle.mg_turn.specs.declared.rule.Hold.TheVariants.{Free, Out, Home};
 ghost use Rattle.mg_turn.specs.declared.rule.Slot.TheVariants.{Empty, Full};
 
 use crate::rule::{
-    COUNT, Count, Give, Keepsake, Law, Learn, Meet, NewCaller, Opening, PutBack, STATE, Slot, TURN,
-    Take, TakeBack, View,
+    AWAITED, COUNT, Count, FREE, Give, HELD, Keepsake, Law, Learn, Meet, NewCaller, Opening,
+    PutBack, STATE, Slot, TURN, Take, TakeBack, View,
 };
 use crate::state::Stands;
 use atomic_table::{Seat, Shared, Table};
@@ -33,7 +33,32 @@ fn try_take<T: Stands>(board: &Board<T>, seat: &mut Place<T>) -> bool
     ensures seat { IsSame seat.old seat.new }
     ensures taken { MatchBool result (HasTaken T.stands (counts_of T.faults T.synced) seat.old.me seat.new.me) (seat.new.me ≡ seat.old.me) }
 {
-    board.compare_exchange::<Take<T>>(seat, TURN, 0, 1) == 0
+    board.compare_exchange::<Take<T>>(seat, TURN, FREE, HELD) == FREE
+}
+
+/// Takes the turn and its full slot, if the turn is free, and else leaves word that somebody waits.
+fn take_or_wait<T: Stands>(board: &Board<T>, seat: &mut Place<T>) -> bool
+    requires { IsAt board.now.table_id seat.old × (seat.old.me.1 ≡ []) }
+    ensures seat { IsSame seat.old seat.new }
+    ensures taken { MatchBool result (HasTaken T.stands (counts_of T.faults T.synced) seat.old.me seat.new.me) (seat.new.me ≡ seat.old.me) }
+{
+    board.swap::<Take<T>>(seat, TURN, AWAITED) == FREE
+}
+
+/// Takes the turn and its full slot, once another thread has given it. Whoever waited leaves word when it takes the turn,
+/// since others may still wait.
+fn wait_and_take<T: Stands, R: Wait>(board: &Board<T>, rt: &R, seat: &mut Place<T>)
+    requires { IsAt board.now.table_id seat.old × (seat.old.me.1 ≡ []) }
+    ensures seat { IsSame seat.old seat.new }
+    ensures taken { HasTaken T.stands (counts_of T.faults T.synced) seat.old.me seat.new.me }
+{
+    for _ in rt.forever() {
+        if take_or_wait::<T>(board, seat) {
+            return;
+        }
+        board.park(rt, TURN, AWAITED as u32);
+    }
+    unreachable!()
 }
 
 /// Takes the turn and its full slot. It waits until the turn is free.
@@ -42,13 +67,9 @@ pub(crate) fn take_slot<T: Stands, R: Wait>(board: &Board<T>, rt: &R, seat: &mut
     ensures seat { IsSame seat.old seat.new }
     ensures taken { HasTaken T.stands (counts_of T.faults T.synced) seat.old.me seat.new.me }
 {
-    for _ in rt.forever() {
-        if try_take::<T>(board, seat) {
-            return;
-        }
-        board.park(rt, TURN, 1);
+    if !try_take::<T>(board, seat) {
+        wait_and_take::<T, R>(board, rt, seat);
     }
-    unreachable!()
 }
 
 /// The state out of the full slot, which goes home empty.
@@ -76,19 +97,25 @@ pub(crate) fn learn<T: Stands>(board: &Board<T>, seat: &mut Place<T>) -> u64
 }
 
 /// Enters an entry after the `count` that the history has.
-pub(crate) fn count<T: Stands>(board: &Board<T>, seat: &mut Place<T>, count: u64, entry: &T::Entry)
+pub(crate) fn count<T: Stands>(
+    board: &Board<T>,
+    seat: &mut Place<T>,
+    count: u64,
+    entry: Snapshot<T::Entry>,
+)
     requires seat { IsAt board.now.table_id seat.old × (seat.old.me.0.hold ≡ Home) × (seat.old.me.1 ≡ []) }
     requires count { count ≡ length seat.old.me.0.seen }
     requires room { count < 2 ^ 62 }
     ensures seat { IsSame seat.old seat.new }
-    ensures entered { seat.new.me ≡ (entered seat.old.me.0 entry.now, []) }
+    ensures entered { seat.new.me ≡ (entered seat.old.me.0 entry.value, []) }
 {
-    let note = Slot::Note(Snapshot::of(entry));
+    let note = Slot::Note(entry);
     board.compare_exchange_with::<Count>(seat, COUNT, count, count + 1, &note);
     note.discard();
 }
 
-/// Puts the state into the slot, and gives the turn back with it.
+/// Puts the state into the slot, and gives the turn back with it. It wakes one thread where any may wait, and else makes no
+/// system call.
 pub(crate) fn give_slot<T: Stands>(board: &Board<T>, seat: &mut Place<T>, state: T)
     requires seat { IsAt board.now.table_id seat.old × (seat.old.me.0.hold ≡ Home) × (seat.old.me.1 ≡ []) }
     requires stands { T.stands seat.old.me.0.first seat.old.me.0.seen state }
@@ -98,8 +125,9 @@ pub(crate) fn give_slot<T: Stands>(board: &Board<T>, seat: &mut Place<T>, state:
 {
     board.load::<TakeBack>(seat, TURN);
     board.exchange(seat, STATE, Slot::Full(state)).discard();
-    board.swap::<Give<T>>(seat, TURN, 0);
-    board.wake_one(TURN);
+    if board.swap::<Give<T>>(seat, TURN, FREE) == AWAITED {
+        board.wake_one(TURN);
+    }
 }
 
 /// A seat of a new caller.

@@ -5,13 +5,10 @@ ghost use Rattle.mg_turn.specs.Passes.{IsWaiting, HasEntered, AfterCalls, IsDone
 
 use crate::passes::Pass;
 use crate::state::Stands;
-use crate::turns::Turn;
+use crate::turns::{MOST_ENTRIES, Turn};
 use std::alloc::Global;
 use std::sync::Wait;
 use std::thread::{Threads, join};
-
-/// The most entries of a history.
-pub const MOST: u64 = (1 << 62) - 1;
 
 /// How many entries there are, and how often one was refused.
 #[derive(Drop)]
@@ -42,7 +39,7 @@ impl Turn<Tally> {
         ensures faults { pass.old.faults ≤ pass.new.faults }
     {
         let mut held = self.take(rt, pass);
-        if held.state.entries >= MOST {
+        if held.state.entries >= MOST_ENTRIES {
             held.state.refused = held.state.refused.saturating_add(1);
             self.give(pass, held);
             return None;
@@ -132,24 +129,23 @@ pub fn count_by_two<R: Threads + Wait + Sync>(
     Some(end)
 }
 
+/// A free turn that has counted nothing, and the pass of caller 0, which has all parts of it.
+pub fn open(alloc: Global) -> Option<(Turn<Tally>, Pass<u64>)>
+    ensures { IfSome result (λ made. made.1 ≡ first_pass made.0 0 0 0) }
+{
+    let tally = Tally {
+        entries: 0,
+        refused: 0,
+    };
+    Turn::new(alloc, 0, tally).ok()
+}
+
 /// A free turn that has counted nothing, and the passes of callers 0 and 1.
 pub(crate) fn open_for_two(alloc: Global) -> Option<(Turn<Tally>, Pass<u64>, Pass<u64>)>
     ensures first { IfSome result (λ made. made.1 ≡ record (first_pass made.0 0 0 0) { parts = 65535; next = 2 }) }
     ensures second { IfSome result (λ made. made.2 ≡ pass_after (first_pass made.0 0 0 0)) }
 {
-    let made = Turn::new(
-        alloc,
-        0,
-        Tally {
-            entries: 0,
-            refused: 0,
-        },
-    );
-    match made {
-        Ok((turn, mut one)) => {
-            let two = turn.split(&mut one);
-            Some((turn, one, two))
-        }
-        Err(_) => None,
-    }
+    let (turn, mut one) = open(alloc)?;
+    let two = turn.split(&mut one);
+    Some((turn, one, two))
 }

@@ -5,6 +5,8 @@ ghost use Rattle.mg_turn.specs.History.{IsPrefix, AreCalls, NoOthers, calls_in};
 ghost use Rattle.mg_turn.specs.Passes.{IsWaiting, IsHolding, own_calls, first_pass, pass_after, met_with};
 
 use crate::passes::Pass;
+#[cfg(test)]
+use crate::rule::TURN;
 use crate::rule::{Law, Opening, Slot, View};
 use crate::state::Stands;
 use crate::steps::{
@@ -16,6 +18,9 @@ use std::marker::Model;
 use std::mem;
 use std::snapshot::Snapshot;
 use std::sync::Wait;
+
+/// The most entries of a history. No more are entered.
+pub const MOST_ENTRIES: u64 = (1 << 62) - 1;
 
 /// The state of a turn, while its holder has it.
 #[derive(Drop)]
@@ -86,7 +91,8 @@ impl<T: Stands> Turn<T> {
         }
     }
 
-    /// Waits until the turn is free, and takes it with its state.
+    /// Waits until the turn is free, and takes it with its state. Of the entries that it shows, those of this caller, and of
+    /// each caller that the pass has met, are exactly the calls that the pass has of it.
     pub fn take<R: Wait>(&self, rt: &R, pass: &mut Pass<T::Entry>) -> Held<T>
         requires { IsWaiting self.now pass.old }
         ensures pass { pass.new ≡ record pass.old { seen = pass.new.seen; faults = T.faults result.state; synced = T.synced result.state; holds = true } }
@@ -94,6 +100,7 @@ impl<T: Stands> Turn<T> {
         ensures stands { T.stands pass.old.first pass.new.seen result.state }
         ensures faults { pass.old.faults ≤ T.faults result.state }
         ensures synced { pass.old.synced ≤ T.synced result.state }
+        ensures calls { AreCalls pass.new.seen (own_calls pass.new) }
     {
         let mut seat = mem::replace(&mut pass.badge, Badge::blank()).into_seat();
         take_slot::<T, R>(&self.table.shared, rt, &mut seat);
@@ -114,12 +121,28 @@ impl<T: Stands> Turn<T> {
         entries
     }
 
-    /// Enters an entry of this caller, and tells its place in the history, from 1.
-    pub fn enter(&self, pass: &mut Pass<T::Entry>, _held: &Held<T>, entry: &T::Entry) -> u64
+    /// Enters an entry of this caller, and tells its place in the history, from 1. The entry is not copied.
+    pub fn enter(&self, pass: &mut Pass<T::Entry>, held: &Held<T>, entry: &T::Entry) -> u64
         requires pass { IsHolding self.now pass.old }
         requires room { length pass.old.seen < 2 ^ 62 - 1 }
         ensures place { result ≡ length pass.old.seen + 1 }
         ensures entered { pass.new ≡ record pass.old { calls = pass.old.calls ++ entry.now ∷ []; seen = pass.old.seen ++ (pass.old.caller, entry.now) ∷ [] } }
+    {
+        self.enter_snapshot(pass, held, Snapshot::of(entry))
+    }
+
+    /// Enters an entry of this caller of which a snapshot was taken, and tells its place in the history, from 1. So an entry
+    /// can be moved into the state first and be entered after that, without a copy of it.
+    pub fn enter_snapshot(
+        &self,
+        pass: &mut Pass<T::Entry>,
+        _held: &Held<T>,
+        entry: Snapshot<T::Entry>,
+    ) -> u64
+        requires pass { IsHolding self.now pass.old }
+        requires room { length pass.old.seen < 2 ^ 62 - 1 }
+        ensures place { result ≡ length pass.old.seen + 1 }
+        ensures entered { pass.new ≡ record pass.old { calls = pass.old.calls ++ entry.value ∷ []; seen = pass.old.seen ++ (pass.old.caller, entry.value) ∷ [] } }
     {
         let mut seat = mem::replace(&mut pass.badge, Badge::blank()).into_seat();
         let entries = learn::<T>(&self.table.shared, &mut seat);
@@ -128,7 +151,8 @@ impl<T: Stands> Turn<T> {
         entries + 1
     }
 
-    /// Gives the turn back, with a state that stands for the history as it is now.
+    /// Gives the turn back, with a state that stands for the history as it is now. It makes a system call only where a thread
+    /// may wait for the turn.
     pub fn give(&self, pass: &mut Pass<T::Entry>, held: Held<T>)
         requires pass { IsHolding self.now pass.old }
         requires stands { T.stands pass.old.first pass.old.seen held.state }
@@ -140,6 +164,12 @@ impl<T: Stands> Turn<T> {
         let mut seat = mem::replace(&mut pass.badge, Badge::blank()).into_seat();
         give_slot::<T>(&self.table.shared, &mut seat, state);
         pass.badge = seat.into_badge();
+    }
+
+    /// Whether the turn is taken and awaited, as the word says it at this moment.
+    #[cfg(test)]
+    pub(crate) fn word(&self) -> u64 {
+        self.table.shared.peek(TURN)
     }
 
     /// Makes one pass out of two. The histories that they have seen are beginnings of one history, and the pass keeps the longer.

@@ -1,5 +1,5 @@
 use Rattle.std.proofs.Common.{◌≡◌}
-use Rattle.mg_turn.proofs.steps.take_slot.Given as goal
+use Rattle.mg_turn.proofs.steps.wait_and_take.Given as goal
 
 abbrev pub invariant-loop : goal.invariant-loop
 invariant-loop g l =
