@@ -19,6 +19,7 @@ mod whole;
 
 pub use builder::BlockBuilder;
 pub use cursor::BlockCursor;
+pub use key::shared_len;
 pub use lookup::find;
 pub use pair::{BlockError, NoRoom, NotABlock, Pair};
 pub use reading::one_reading;
