@@ -1,3 +1,9 @@
 pub mod HistoryLemmas
 pub mod ListLemmas
 pub mod MarkLemmas
+pub mod ManyParts
+mod StateLemmas
+mod AllowedLemmas
+mod LimitLemmas
+mod CallerLemmas
+mod FitsLemmas

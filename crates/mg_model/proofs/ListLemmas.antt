@@ -1,6 +1,6 @@
 -- The mutation list with one more at its end.
 use Rattle.std.proofs.Common.{◌≡◌, ℕ, ◌+◌, ◌-◌, ◌<◌, ◌≤◌, suc, max, min, List, [], ◌∷◌, ◌++◌, length, take, map, Bool, true, false, cond, nat_lt, ◌&&◌, ◌==◌, ◌≢◌, get_or, Option, None, Some, unwrap_or, refl, ap, add-zero, ◌∙◌, sym, arith}
-use Rattle.std.specs.Option.{option_map_or, option_map, option_and_then}
+use Rattle.std.specs.Option.{is_some, option_map_or, option_map, option_and_then}
 use Rattle.std.specs.Bool.{if◌then◌else◌}
 use Rattle.std.specs.List.{filter, find}
 use Rattle.std.specs.Str.{bytes_eq}
@@ -8,9 +8,10 @@ use Rattle.std.proofs.lemmas.List.{append-nil, map-append, take_more, length-tak
 use Rattle.std.proofs.lemmas.Bool.{ltb-true, ltb-false, eqb-true, eqb-false}
 use Rattle.std.proofs.lemmas.Bool.Decides.{nat_tests}
 use Rattle.std.proofs.lemmas.List.Elements.{filter-append}
-use Rattle.mg_model.specs.declared.documents.Mutation.{Mutation}
-use Rattle.mg_model.specs.declared.documents.Item.{Item}
-use Rattle.mg_model.specs.Mutations.{item_of, items_from, items_of, greatest, numbers_of, newest, item_at, read, held, is_set}
+use Rattle.mg_model.specs.declared.mutations.Mutation.{Mutation}
+use Rattle.mg_types.specs.declared.items.Item.{Item}
+use Rattle.mg_types.specs.Items.{is_set}
+use Rattle.mg_model.specs.Mutations.{item_of, items_from, items_of, greatest, numbers_of, newest, item_at, read, held}
 use Rattle.mg_model.specs.declared.replies.Reply.TheVariants.{Absent, Found}
 use Rattle.mg_model.specs.State.{least, get_reply}
 
@@ -156,23 +157,23 @@ feed_more ms after limit i x h e =
 abbrev pub fed : List Mutation → ℕ → ℕ → ℕ → Mutation → Bool
 fed ms after limit i x = (newest (held ms) x.key == i + 1) && nat_lt after (i + 1) && nat_lt (length (feed_so_far ms after limit i)) limit
 
-pub fed_yes : (ms : List Mutation) (after limit i : ℕ) (x : Mutation) → newest (held ms) x.key ≡ i + 1 → after < i + 1 → length (feed_so_far ms after limit i) < limit → fed ms after limit i x ≡ true
-fed_yes ms after limit i x e a r = passed (newest (held ms) x.key) (i + 1) after (i + 1) (length (feed_so_far ms after limit i)) limit e a r
+-- the choice of a feed, where its first two tests are made in one
+pub fed_due : (ms : List Mutation) (after limit i : ℕ) (x : Mutation) → (nat_lt after (i + 1) && (newest (held ms) x.key == i + 1)) ≡ true → length (feed_so_far ms after limit i) < limit → fed ms after limit i x ≡ true
+fed_due ms after limit i x d r = passed (newest (held ms) x.key == i + 1) (nat_lt after (i + 1)) (length (feed_so_far ms after limit i)) limit d r
   where
-    passed : (u v s t k l : ℕ) → u ≡ v → s < t → k < l → ((u == v) && nat_lt s t && nat_lt k l) ≡ true
-    passed u v s t k l e a b = grind (arith, nat_tests)
+    passed : (b c : Bool) (k l : ℕ) → (c && b) ≡ true → k < l → (b && c && nat_lt k l) ≡ true
+    passed true true k l d r = grind (arith, nat_tests)
+    passed true false k l d r = d
+    passed false true k l d r = d
+    passed false false k l d r = d
 
-pub fed_old : (ms : List Mutation) (after limit i : ℕ) (x : Mutation) → newest (held ms) x.key ≢ i + 1 → fed ms after limit i x ≡ false
-fed_old ms after limit i x e = failed (newest (held ms) x.key) (i + 1) (nat_lt after (i + 1)) (nat_lt (length (feed_so_far ms after limit i)) limit) e
+pub fed_not_due : (ms : List Mutation) (after limit i : ℕ) (x : Mutation) → (nat_lt after (i + 1) && (newest (held ms) x.key == i + 1)) ≡ false → fed ms after limit i x ≡ false
+fed_not_due ms after limit i x d = failed (newest (held ms) x.key == i + 1) (nat_lt after (i + 1)) (nat_lt (length (feed_so_far ms after limit i)) limit) d
   where
-    failed : (u v : ℕ) (c d : Bool) → u ≢ v → ((u == v) && c && d) ≡ false
-    failed u v c d e = grind (arith, nat_tests)
-
-pub fed_before : (ms : List Mutation) (after limit i : ℕ) (x : Mutation) → i + 1 ≤ after → fed ms after limit i x ≡ false
-fed_before ms after limit i x l = failed (newest (held ms) x.key == i + 1) (nat_lt (length (feed_so_far ms after limit i)) limit) after (i + 1) l
-  where
-    failed : (b d : Bool) (s t : ℕ) → t ≤ s → (b && nat_lt s t && d) ≡ false
-    failed b d s t l = grind (arith, nat_tests)
+    failed : (b c e : Bool) → (c && b) ≡ false → (b && c && e) ≡ false
+    failed true true e d = absurd cc
+    failed true false e d = refl
+    failed false c e d = refl
 
 pub fed_full : (ms : List Mutation) (after limit i : ℕ) (x : Mutation) → limit ≤ length (feed_so_far ms after limit i) → fed ms after limit i x ≡ false
 fed_full ms after limit i x l = failed (newest (held ms) x.key == i + 1) (nat_lt after (i + 1)) (length (feed_so_far ms after limit i)) limit l
@@ -221,17 +222,24 @@ filter_drops p xs x e = filter-append p xs (x ∷ []) ∙ ap (λ b. filter p xs 
 abbrev pub live_sets : List Mutation → ℕ → List Item
 live_sets ms i = filter is_set (live_so_far ms i)
 
-pub live_sets_grow : (ms : List Mutation) (i : ℕ) (x : Mutation) → i < length ms → x ≡ get_or ms i x → newest (held ms) x.key ≡ i + 1 → is_set (item_of (i + 1) x) ≡ true
+pub live_sets_grow : (ms : List Mutation) (i : ℕ) (x : Mutation) → i < length ms → x ≡ get_or ms i x → (is_some x.doc && (newest (held ms) x.key == i + 1)) ≡ true
     → live_sets ms (i + 1) ≡ live_sets ms i ++ item_of (i + 1) x ∷ []
-live_sets_grow ms i x h e n s = ap (filter is_set) (live_grows ms i x h e n) ∙ filter_keeps is_set (live_so_far ms i) (item_of (i + 1) x) s
-
-pub live_sets_stay : (ms : List Mutation) (i : ℕ) (x : Mutation) → i < length ms → x ≡ get_or ms i x → is_set (item_of (i + 1) x) ≡ false
-    → live_sets ms (i + 1) ≡ live_sets ms i
-live_sets_stay ms i x h e s = ap (filter is_set) (live_more ms i x h e) ∙ by_test (newest (held ms) x.key == i + 1)
+live_sets_grow ms i x h e t =
+    let both = and_parts (is_some x.doc) (newest (held ms) x.key == i + 1) t in
+    ap (filter is_set) (live_grows ms i x h e (eqb-true (newest (held ms) x.key) (i + 1) both.1)) ∙ filter_keeps is_set (live_so_far ms i) (item_of (i + 1) x) both.0
   where
-    by_test : (b : Bool) → filter is_set (if b then live_so_far ms i ++ item_of (i + 1) x ∷ [] else live_so_far ms i) ≡ live_sets ms i
-    by_test true = filter_drops is_set (live_so_far ms i) (item_of (i + 1) x) s
-    by_test false = refl
+    and_parts : (a b : Bool) → (a && b) ≡ true → (a ≡ true) × (b ≡ true)
+    and_parts true b t = (refl, t)
+    and_parts false b t = absurd cc
+
+pub live_sets_stay : (ms : List Mutation) (i : ℕ) (x : Mutation) → i < length ms → x ≡ get_or ms i x → (is_some x.doc && (newest (held ms) x.key == i + 1)) ≡ false
+    → live_sets ms (i + 1) ≡ live_sets ms i
+live_sets_stay ms i x h e t = ap (filter is_set) (live_more ms i x h e) ∙ by_tests (is_some x.doc) (newest (held ms) x.key == i + 1) refl t
+  where
+    by_tests : (a b : Bool) → is_set (item_of (i + 1) x) ≡ a → (a && b) ≡ false → filter is_set (if b then live_so_far ms i ++ item_of (i + 1) x ∷ [] else live_so_far ms i) ≡ live_sets ms i
+    by_tests true true s t = absurd cc
+    by_tests false true s t = filter_drops is_set (live_so_far ms i) (item_of (i + 1) x) s
+    by_tests a false s t = refl
 
 -- the first places hold the first mutations
 pub held_take : (n : ℕ) (ms : List Mutation) → take n (held ms) ≡ held (take n ms)

@@ -1,4 +1,5 @@
-pub mod Bytes
 pub mod Mutations
 pub mod State
 pub mod History
+pub mod Placed
+pub mod Fits

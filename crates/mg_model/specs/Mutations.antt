@@ -1,12 +1,12 @@
 -- The mutation list of a partition: what it holds, its newest mutations, its reads and its feeds.
-use Rattle.std.specs.Prelude.{ℕ, ◌+◌, max, List, [], ◌∷◌, length, take, map, Bool, ◌==◌, nat_lt, Option, None, Some, unwrap_or, if◌then◌else◌}
-use Rattle.std.specs.Option.{option_map_or, option_and_then, option_map, is_some}
+use Rattle.std.specs.Prelude.{ℕ, ◌+◌, max, List, [], ◌∷◌, length, take, map, ◌==◌, nat_lt, Option, None, Some, unwrap_or, if◌then◌else◌}
+use Rattle.std.specs.Option.{option_map_or, option_and_then, option_map}
 use Rattle.std.specs.List.{filter, find, fold}
 use Rattle.std.specs.Str.{bytes_eq}
-use Rattle.mg_model.specs.declared.documents.Doc.{Doc}
-use Rattle.mg_model.specs.declared.documents.Key.{Key}
-use Rattle.mg_model.specs.declared.documents.Item.{Item}
-use Rattle.mg_model.specs.declared.documents.Mutation.{Mutation}
+use Rattle.mg_types.specs.declared.documents.Doc.{Doc}
+use Rattle.mg_types.specs.declared.keys.Key.{Key}
+use Rattle.mg_types.specs.declared.items.Item.{Item}
+use Rattle.mg_model.specs.declared.mutations.Mutation.{Mutation}
 
 -- a mutation list has at each place, counted from 1, a mutation, or nothing where its bytes were cleaned away
 abbrev pub Mutations : Type 0
@@ -51,29 +51,25 @@ item_at m n = find (λ i. i.seq == n) (items_of m)
 abbrev pub read : Mutations → Key → Option (ℕ × Doc)
 read m key = option_and_then (λ i. option_map (λ doc. (i.seq, doc)) i.doc) (item_at m (newest m key))
 
--- the first n newest mutations above the number s
-abbrev pub feed : Mutations → ℕ → ℕ → List Item
-feed m s n = take n (filter (λ i. nat_lt s i.seq) (live m))
+-- the first n of some items among those above the number s
+abbrev pub feed_of : List Item → ℕ → ℕ → List Item
+feed_of items s n = take n (filter (λ i. nat_lt s i.seq) items)
 
 -- the number of the last item, or e where there is none
 abbrev pub last_seq : List Item → ℕ → ℕ
 last_seq items e = fold (λ _ i. i.seq) e items
 
--- where a feed of n items after s ends: at the last item where it is full, else at the end of the list
+-- where a feed of at most n items after s ends that gave these: at its last item where it is full, else at the end of the list
+abbrev pub end_of : List Item → ℕ → ℕ → ℕ → ℕ
+end_of given end s n = if length given == n then last_seq given s else end
+
+-- the feed of a mutation list: of its newest mutations
+abbrev pub feed : Mutations → ℕ → ℕ → List Item
+feed m s n = feed_of (live m) s n
+
+-- where this feed ends
 abbrev pub feed_end : Mutations → ℕ → ℕ → ℕ
-feed_end m s n = if length (feed m s n) == n then last_seq (feed m s n) s else length m
-
--- the bytes of an item's document; a delete has none
-abbrev pub doc_size : Item → ℕ
-doc_size i = option_map_or (λ (doc : Doc). length doc) i.doc 0
-
--- the bytes of an item: of its key and of its document
-abbrev pub size_of : Item → ℕ
-size_of i = length i.key + doc_size i
-
--- whether an item is a set
-abbrev pub is_set : Item → Bool
-is_set i = is_some i.doc
+feed_end m s n = end_of (feed m s n) (length m) s n
 
 -- a list that holds a mutation at each place
 abbrev pub held : List Mutation → Mutations

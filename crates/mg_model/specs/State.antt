@@ -1,13 +1,14 @@
 -- A partition's state, and the one step that each call is.
-use Rattle.std.specs.Prelude.{ℕ, ◌+◌, ◌<◌, ◌≤◌, ◌^◌, min, List, [], ◌∷◌, ◌++◌, length, take, Bool, not, ◌||◌, ◌==◌, ⊤, ◌-◌, nat_lt, nat_le, Option, None, Some, if◌then◌else◌}
-use Rattle.std.specs.Option.{option_map_or}
-use Rattle.std.specs.List.{filter, list_any, sum_by}
+use Rattle.std.specs.Prelude.{◌≡◌, ℕ, ◌+◌, ◌<◌, ◌≤◌, ◌^◌, min, List, [], ◌∷◌, ◌++◌, length, take, Bool, not, ◌||◌, ◌==◌, ⊤, ◌-◌, nat_lt, nat_le, Option, None, Some, if◌then◌else◌}
+use Rattle.std.specs.Option.{option_and_then, option_map_or}
+use Rattle.std.specs.List.{AllByRecursion, filter, list_any, sum_by}
 use Rattle.mg_model.specs.declared.calls.Call.{Call}
 use Rattle.mg_model.specs.declared.calls.Call.TheVariants.{Set, Del, Get, Feed, Mark, Forget, Rollback, Clear, Sync, Compact, Stats}
-use Rattle.mg_model.specs.declared.documents.Mutation.{Mutation}
+use Rattle.mg_model.specs.declared.mutations.Mutation.{Mutation}
 use Rattle.mg_model.specs.declared.replies.Reply.{Reply}
 use Rattle.mg_model.specs.declared.replies.Reply.TheVariants as reply
-use Rattle.mg_model.specs.Mutations.{Mutations, live, read, feed, feed_end, greatest, is_set, doc_size, size_of}
+use Rattle.mg_types.specs.Items.{doc_size, is_set, size_of}
+use Rattle.mg_model.specs.Mutations.{Mutations, live, read, feed, feed_end, greatest}
 
 -- a partition's mutation list, the places to which a rollback can go, in rising order, and its epoch
 pub record State : Type 0 where
@@ -23,17 +24,25 @@ new_state = record { mutations = []; marks = []; epoch = 0 }
 abbrev pub length_of : State → ℕ
 length_of s = length s.mutations
 
+-- the places that are marks
+abbrev pub marks_of : State → List ℕ
+marks_of s = s.marks
+
 -- the most marks that are kept
 abbrev pub mark_limit : ℕ
 mark_limit = 16
 
 -- whether this place is a mark
 abbrev pub is_mark : State → ℕ → Bool
-is_mark s place = list_any (λ mark. mark == place) s.marks
+is_mark s place = list_any (λ mark. mark == place) (marks_of s)
+
+-- whether one mark more can be kept
+abbrev pub has_mark_room : State → Bool
+has_mark_room s = nat_lt (length (marks_of s)) mark_limit
 
 -- the greatest mark that is at most this place
 abbrev pub mark_at_most : State → ℕ → Option ℕ
-mark_at_most s place = greatest (filter (λ mark. nat_le mark place) s.marks)
+mark_at_most s place = greatest (filter (λ mark. nat_le mark place) (marks_of s))
 
 -- the least of some numbers, if there is one
 abbrev pub least : List ℕ → Option ℕ
@@ -46,15 +55,15 @@ after_write s mutation = record s { mutations = s.mutations ++ Some mutation ∷
 
 -- the state with its length as a mark
 abbrev pub after_mark : State → State
-after_mark s = if is_mark s (length_of s) then s else record s { marks = s.marks ++ length_of s ∷ [] }
+after_mark s = if is_mark s (length_of s) then s else record s { marks = marks_of s ++ length_of s ∷ [] }
 
 -- the state without this mark
 abbrev pub after_forget : State → ℕ → State
-after_forget s place = record s { marks = filter (λ mark. not (mark == place)) s.marks }
+after_forget s place = record s { marks = filter (λ mark. not (mark == place)) (marks_of s) }
 
 -- the state cut back to this mark: what is above it goes, and a new epoch begins
 abbrev pub after_back : State → ℕ → State
-after_back s mark = record { mutations = take mark s.mutations; marks = filter (λ m. nat_le m mark) s.marks; epoch = s.epoch + 1 }
+after_back s mark = record { mutations = take mark s.mutations; marks = filter (λ m. nat_le m mark) (marks_of s); epoch = s.epoch + 1 }
 
 -- the state with nothing in it, in a new epoch
 abbrev pub after_clear : State → State
@@ -83,7 +92,7 @@ feed_reply s epoch after limit =
 
 -- a rollback to what the greatest mark that is low enough is
 abbrev pub rollback : State → Option ℕ → Outcome
-rollback s None = replies s (reply.Reset (least s.marks))
+rollback s None = replies s (reply.Reset (least (marks_of s)))
 rollback s (Some mark) = record { state = after_back s mark; reply = reply.Back mark (s.epoch + 1) }
 
 -- each call's outcome
@@ -93,7 +102,7 @@ step s (Del key) = record { state = after_write s (record { key = key; doc = Non
 step s (Get key) = replies s (get_reply (read s.mutations key))
 step s (Feed epoch after limit) = replies s (feed_reply s epoch after limit)
 step s Mark =
-    if is_mark s (length_of s) || nat_lt (length s.marks) mark_limit
+    if is_mark s (length_of s) || has_mark_room s
     then record { state = after_mark s; reply = reply.Marked (length_of s) }
     else replies s (reply.Full mark_limit)
 step s (Forget mark) =
@@ -107,7 +116,7 @@ step s (Compact through) =
     replies s (reply.Compacted through (length first) (sum_by size_of first))
 step s Stats =
     let documents = filter is_set (live s.mutations) in
-    replies s (reply.Stats (length_of s) (length documents) (sum_by doc_size documents) (length s.marks) s.epoch)
+    replies s (reply.Stats (length_of s) (length documents) (sum_by doc_size documents) (length (marks_of s)) s.epoch)
 
 -- the greatest sequence number, and the greatest epoch
 abbrev pub seq_limit : ℕ
@@ -116,16 +125,46 @@ seq_limit = 2 ^ 40 - 1
 abbrev pub epoch_limit : ℕ
 epoch_limit = 2 ^ 62 - 1
 
--- whether a call can be made: it passes no limit of numbers, and a compact's end is within the list
+-- a number as it stands, where one more passes its limit
+abbrev pub at_limit : ℕ → ℕ → Option ℕ
+at_limit limit n = if nat_lt n limit then None else Some n
+
+-- The number, as it stands, that a call would raise past its limit: a set or a delete raises the length, a clear and a
+-- rollback that goes to a mark raise the epoch.
+abbrev pub worn : State → Call → Option ℕ
+worn s (Set key doc) = at_limit seq_limit (length_of s)
+worn s (Del key) = at_limit seq_limit (length_of s)
+worn s (Get key) = None
+worn s (Feed epoch after limit) = None
+worn s Mark = None
+worn s (Forget mark) = None
+worn s (Rollback to) = option_and_then (λ _. at_limit epoch_limit s.epoch) (mark_at_most s to)
+worn s Clear = at_limit epoch_limit s.epoch
+worn s Sync = None
+worn s (Compact through) = None
+worn s Stats = None
+
+-- a call that passes no limit of numbers has room
 abbrev pub HasRoom : State → Call → Type 0
-HasRoom s (Set key doc) = length_of s < seq_limit
-HasRoom s (Del key) = length_of s < seq_limit
-HasRoom s (Get key) = ⊤
-HasRoom s (Feed epoch after limit) = ⊤
-HasRoom s Mark = ⊤
-HasRoom s (Forget mark) = ⊤
-HasRoom s (Rollback to) = s.epoch < epoch_limit
-HasRoom s Clear = s.epoch < epoch_limit
-HasRoom s Sync = ⊤
-HasRoom s (Compact through) = through ≤ length_of s
-HasRoom s Stats = ⊤
+HasRoom s call = worn s call ≡ None
+
+-- what a compact speaks of is within the list
+abbrev pub EndsWithin : State → Call → Type 0
+EndsWithin s (Compact through) = through ≤ length_of s
+EndsWithin s other = ⊤
+
+-- each number is below those behind it
+abbrev pub Rises : List ℕ → Type 0
+Rises [] = ⊤
+Rises (n ∷ ns) = AllByRecursion (λ k. n < k) ns × Rises ns
+
+-- a state is one where its marks rise, are few enough and are places of its list
+pub record IsState (s : State) : Type 0 where
+  pub rise : Rises (marks_of s)
+  pub few : length (marks_of s) ≤ mark_limit
+  pub within : AllByRecursion (λ mark. mark ≤ length_of s) (marks_of s)
+
+-- a state's numbers are at most their limits
+pub record InLimits (s : State) : Type 0 where
+  pub places : length_of s ≤ seq_limit
+  pub epochs : s.epoch ≤ epoch_limit

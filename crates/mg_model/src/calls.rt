@@ -2,8 +2,7 @@
 
 ghost use Rattle.std.specs.Prelude.{◌≡◌, IfOk, IsOkUnless};
 
-use crate::documents::{Doc, Key};
-use crate::faults::Fault;
+use mg_types::{Doc, Fault, Key};
 use std::alloc::Global;
 
 /// A client's call on a partition.

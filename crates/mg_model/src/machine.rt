@@ -1,15 +1,15 @@
 //! The plain machine: a vector of mutations, searched from end to end.
 
-ghost use Rattle.std.specs.Prelude.{◌≡◌, ◌+◌, ◌<◌, ◌≤◌, IfOk, IsOkUnless, OnErr, OnOk};
+ghost use Rattle.std.specs.Prelude.{◌≡◌, ◌+◌, ◌≤◌, IfOk, IsOkUnless, None, OnErr, OnOk};
 ghost use Rattle.mg_model.specs.Mutations.{read};
-ghost use Rattle.mg_model.specs.State.{after_write, epoch_limit, feed_reply, get_reply, HasRoom, length_of, new_state, seq_limit, step};
+ghost use Rattle.mg_model.specs.State.{after_back, after_write, at_limit, EndsWithin, epoch_limit, feed_reply, get_reply, HasRoom, length_of, new_state, seq_limit, step, worn};
 
 use crate::calls::Call;
-use crate::documents::{Doc, Key, Mutation};
-use crate::faults::Fault;
 use crate::marks::{cut_marks, greatest_at_most, least_of, remove_mark};
+use crate::mutations::Mutation;
 use crate::replies::Reply;
 use crate::scan::{feed_items, last_number, live_documents, live_sizes, newest_place};
+use mg_types::{Doc, Fault, Key, NUMBER_LIMIT, SEQ_LIMIT};
 use std::alloc::Global;
 use std::marker::Model;
 
@@ -25,6 +25,16 @@ pub struct Plain {
 
 /// The most marks that are kept.
 const MARK_LIMIT: u8 = 16;
+
+/// The greatest epoch.
+const EPOCH_LIMIT: u64 = NUMBER_LIMIT - 1;
+
+/// The number, where one more passes the limit.
+fn at_most(number: u64, limit: u64) -> Option<u64>
+    ensures { result ≡ at_limit limit number }
+{
+    if number < limit { None } else { Some(number) }
+}
 
 impl Model for Plain {
     ghost use Rattle.std.specs.Prelude.{◌≤◌, length};
@@ -63,9 +73,27 @@ impl Plain {
         self.epoch
     }
 
+    /// The number, as it stands, that the call would raise past its limit, or `None` where it passes none. Takes no memory.
+    pub fn worn(&self, call: &Call) -> Option<u64>
+        ensures { result ≡ worn self.now call.now }
+    {
+        match call {
+            Call::Set { .. } | Call::Del { .. } => at_most(self.length(), SEQ_LIMIT),
+            Call::Rollback { to } => {
+                greatest_at_most(&self.marks, *to).and_then(|_mark| at_most(
+                    self.epoch,
+                    EPOCH_LIMIT,
+                ))
+            }
+            Call::Clear => at_most(self.epoch, EPOCH_LIMIT),
+            _ => None,
+        }
+    }
+
     /// One step: the state after the call and its reply are the definition's.
     pub fn apply(&mut self, alloc: Global, call: &Call) -> Result<Reply, Fault>
-        requires { HasRoom self.old call.now }
+        requires room { HasRoom self.old call.now }
+        requires within { EndsWithin self.old call.now }
         ensures step { IfOk result (λ reply. step self.old call.now ≡ record { state = self.new; reply = reply }) }
         ensures err { IsOkUnless result Fault.NoMemory }
         ensures same { OnErr result (self.new ≡ self.old) }
@@ -93,7 +121,7 @@ impl Plain {
     }
 
     fn write(&mut self, key: Key, doc: Option<Doc>) -> Result<Reply, Fault>
-        requires { length_of self.old < seq_limit }
+        requires { at_limit seq_limit (length_of self.old) ≡ None }
         ensures ok { OnOk result (self.new ≡ after_write self.old (record { key = key; doc = doc })) }
         ensures reply { IfOk result (λ reply. reply ≡ Reply.Seq (length_of self.old + 1)) }
         ensures err { IsOkUnless result Fault.NoMemory }
@@ -166,16 +194,24 @@ impl Plain {
         Reply::Forgot { mark }
     }
 
-    #[tactic(auto, using(crate::proofs::ListLemmas::held_take))]
     fn rollback(&mut self, to: u64) -> Reply
-        requires { self.old.epoch < epoch_limit }
+        requires { HasRoom self.old (Call.Rollback to) }
         ensures { step self.old (Call.Rollback to) ≡ record { state = self.new; reply = result } }
     {
-        let Some(mark) = greatest_at_most(&self.marks, to) else {
-            return Reply::Reset {
+        match greatest_at_most(&self.marks, to) {
+            Some(mark) => self.go_back(mark),
+            None => Reply::Reset {
                 least: least_of(&self.marks),
-            };
-        };
+            },
+        }
+    }
+
+    #[tactic(auto, using(crate::proofs::ListLemmas::held_take))]
+    fn go_back(&mut self, mark: u64) -> Reply
+        requires { at_limit epoch_limit self.old.epoch ≡ None }
+        ensures state { self.new ≡ after_back self.old mark }
+        ensures reply { result ≡ Reply.Back mark (self.old.epoch + 1) }
+    {
         self.mutations.truncate(mark as usize);
         cut_marks(&mut self.marks, mark);
         self.epoch += 1;
@@ -186,7 +222,7 @@ impl Plain {
     }
 
     fn clear(&mut self) -> Reply
-        requires { self.old.epoch < epoch_limit }
+        requires { HasRoom self.old Call.Clear }
         ensures { step self.old Call.Clear ≡ record { state = self.new; reply = result } }
     {
         self.mutations.clear();

@@ -1,8 +1,7 @@
 //! What a partition replies to a call.
 
-use crate::documents::{Doc, Item};
-use crate::faults::Fault;
 use mg_items::Items;
+use mg_types::{Doc, Fault, Item};
 
 /// The reply to a call that met no fault.
 #[derive(Debug, Drop)]

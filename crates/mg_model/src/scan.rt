@@ -1,13 +1,14 @@
 //! Passes over a whole mutation list, each of which computes one of the definitions.
 
-ghost use Rattle.std.specs.Prelude.{◌≡◌, ◌≤◌, ◌<◌, length, IfOk, IsOkUnless};
+ghost use Rattle.std.specs.Prelude.{◌≡◌, ◌≤◌, ◌&&◌, ◌==◌, is_some, length, nat_lt, IfOk, IsOkUnless};
 ghost use Rattle.std.specs.List.{filter, sum_by};
-ghost use Rattle.mg_model.specs.Mutations.{doc_size, feed, held, is_set, item_of, last_seq, live, newest, size_of};
+ghost use Rattle.mg_types.specs.Items.{doc_size, is_set, size_of};
+ghost use Rattle.mg_model.specs.Mutations.{feed, held, item_of, last_seq, live, newest};
 ghost use Rattle.mg_model.specs.State.{seq_limit};
 
-use crate::documents::{Item, Key, Mutation};
-use crate::faults::Fault;
+use crate::mutations::Mutation;
 use mg_items::Items;
+use mg_types::{Fault, Item, Key};
 use std::alloc::Global;
 
 /// The place of the newest mutation of a key, from 1, or 0 where there is none.
@@ -21,6 +22,27 @@ pub fn newest_place(mutations: &[Mutation], key: &Key) -> usize
         }
     }
     place
+}
+
+/// Whether the mutation at a place, counted from 1, is the newest of its key.
+fn is_newest(mutations: &[Mutation], mutation: &Mutation, place: usize) -> bool
+    ensures { result ≡ (newest (held mutations.now) mutation.now.key == place) }
+{
+    newest_place(mutations, &mutation.key) == place
+}
+
+/// Whether the mutation at a place belongs in a feed of what comes after `after`.
+fn is_due(mutations: &[Mutation], mutation: &Mutation, place: usize, after: u64) -> bool
+    ensures { result ≡ (nat_lt after place && (newest (held mutations.now) mutation.now.key == place)) }
+{
+    after < place as u64 && is_newest(mutations, mutation, place)
+}
+
+/// Whether the mutation at a place is a set and the newest of its key.
+fn is_live_set(mutations: &[Mutation], mutation: &Mutation, place: usize) -> bool
+    ensures { result ≡ (is_some mutation.now.doc && (newest (held mutations.now) mutation.now.key == place)) }
+{
+    mutation.doc.is_some() && is_newest(mutations, mutation, place)
 }
 
 /// The mutation as an item with this number.
@@ -49,12 +71,8 @@ pub fn feed_items(
     let mut items = Items::new(alloc);
     for (index, mutation) in mutations.iter().enumerate() {
         let place = index + 1;
-        let seq = place as u64;
-        if items.len() < usize::from(limit)
-            && after < seq
-            && newest_place(mutations, &mutation.key) == place
-        {
-            items.push(numbered(alloc, seq, mutation)?)?;
+        if items.len() < usize::from(limit) && is_due(mutations, mutation, place, after) {
+            items.push(numbered(alloc, place as u64, mutation)?)?;
         }
     }
     Ok(items)
@@ -67,6 +85,17 @@ pub struct Tally {
     pub bytes: u64,
 }
 
+/// The bytes of a mutation's document; a delete has none.
+fn document_size(mutation: &Mutation) -> u64
+    ensures size { result ≡ doc_size (item_of 0 mutation.now) }
+    ensures bound { result ≤ 1048576 }
+{
+    match &mutation.doc {
+        Some(doc) => doc.bytes().len() as u64,
+        None => 0,
+    }
+}
+
 /// The keys whose newest mutation is a set, and the bytes of those documents.
 pub fn live_documents(mutations: &[Mutation]) -> Tally
     requires { length mutations.now ≤ seq_limit }
@@ -76,11 +105,9 @@ pub fn live_documents(mutations: &[Mutation]) -> Tally
     let mut count = 0u64;
     let mut bytes = 0u64;
     for (index, mutation) in mutations.iter().enumerate() {
-        if let Some(doc) = &mutation.doc {
-            if newest_place(mutations, &mutation.key) == index + 1 {
-                count += 1;
-                bytes += doc.bytes().len() as u64;
-            }
+        if is_live_set(mutations, mutation, index + 1) {
+            count += 1;
+            bytes += document_size(mutation);
         }
     }
     Tally { count, bytes }
@@ -91,11 +118,7 @@ fn mutation_size(mutation: &Mutation) -> u64
     ensures size { result ≡ size_of (item_of 0 mutation.now) }
     ensures bound { result ≤ 1048826 }
 {
-    let doc = match &mutation.doc {
-        Some(doc) => doc.bytes().len(),
-        None => 0,
-    };
-    (mutation.key.bytes().len() + doc) as u64
+    mutation.key.bytes().len() as u64 + document_size(mutation)
 }
 
 /// The keys that have a mutation, and the sizes of their newest ones.
@@ -107,7 +130,7 @@ pub fn live_sizes(mutations: &[Mutation]) -> Tally
     let mut count = 0u64;
     let mut bytes = 0u64;
     for (index, mutation) in mutations.iter().enumerate() {
-        if newest_place(mutations, &mutation.key) == index + 1 {
+        if is_newest(mutations, mutation, index + 1) {
             count += 1;
             bytes += mutation_size(mutation);
         }

@@ -1,47 +1,22 @@
-//! Worked calls on the plain machine, and the limits of keys and documents.
+//! Worked calls on the plain machine.
 
-use crate::{Call, Doc, Key, Plain, Reply};
+use crate::{Call, Change, Doc, Key, Plain, Reply};
 use std::alloc::Global;
 use std::process::Abort;
 use std::test::Fail;
-
-fn letters(alloc: Global, count: usize) -> Result<Vec<u8>, Fail> {
-    Ok(vec![in alloc; b'k'; count]?)
-}
-
-#[test]
-fn keys_have_limits(rt: HostRuntime) -> Result<(), Fail> {
-    let alloc = rt.alloc();
-    assert!(rt; Key::new(alloc, b"")?.is_none());
-    assert!(rt; Key::from_vec(letters(alloc, 251)?).is_none());
-    let longest = letters(alloc, 250)?;
-    let key = Key::new(alloc, longest.as_slice())?.ok_or("no key")?;
-    assert_eq!(rt; key.copy(alloc)?.bytes(), longest.as_slice());
-    assert!(rt; Key::new(alloc, letters(alloc, 251)?.as_slice())?.is_none());
-    Ok(())
-}
-
-#[test]
-fn documents_have_a_limit(rt: HostRuntime) -> Result<(), Fail> {
-    let alloc = rt.alloc();
-    let too_long = letters(alloc, 1_048_577)?;
-    assert!(rt; Doc::new(alloc, too_long.as_slice())?.is_none());
-    assert!(rt; Doc::from_vec(too_long).is_none());
-    let largest = Doc::from_vec(letters(alloc, 1_048_576)?).ok_or("no document")?;
-    assert_eq!(rt; largest.copy(alloc)?.bytes().len(), 1_048_576);
-    Ok(())
-}
 
 /// A call of a row. A set has the document `x`.
 #[derive(Clone, Copy, Debug)]
 enum Step {
     Set(&'static str),
+    Del(&'static str),
     Get(&'static str),
     Feed(u64),
     Mark,
     Forget(u64),
     Rollback(u64),
     Clear,
+    Sync,
     Compact(u64),
     Stats,
 }
@@ -56,6 +31,9 @@ fn call_of(alloc: Global, step: Step) -> Result<Call, Fail> {
             key: key(alloc, name)?,
             doc: Doc::new(alloc, b"x")?.ok_or("no document")?,
         },
+        Step::Del(name) => Call::Del {
+            key: key(alloc, name)?,
+        },
         Step::Get(name) => Call::Get {
             key: key(alloc, name)?,
         },
@@ -68,6 +46,7 @@ fn call_of(alloc: Global, step: Step) -> Result<Call, Fail> {
         Step::Forget(mark) => Call::Forget { mark },
         Step::Rollback(to) => Call::Rollback { to },
         Step::Clear => Call::Clear,
+        Step::Sync => Call::Sync,
         Step::Compact(through) => Call::Compact { through },
         Step::Stats => Call::Stats,
     })
@@ -84,10 +63,9 @@ fn text_of(alloc: Global, reply: &Reply) -> Result<String, Fail> {
     })
 }
 
-/// The reply to a call that passes no limit.
+/// The reply to a copy of a call that passes no limit.
 fn reply_to(rt: &impl Abort, alloc: Global, plain: &mut Plain, call: &Call) -> Result<Reply, Fail> {
-    assert!(rt; plain.length() < 1000);
-    assert!(rt; plain.epoch() < 1000);
+    assert!(rt; plain.worn(call).is_none());
     if let Call::Compact { through } = call {
         assert!(rt; *through <= plain.length());
     }
@@ -102,7 +80,7 @@ fn expect(
     step: Step,
     reply: &str,
 ) -> Result<(), Fail> {
-    let call = call_of(alloc, step)?;
+    let call = call_of(alloc, step)?.copy(alloc)?;
     let replied = reply_to(rt, alloc, plain, &call)?;
     assert_eq!(rt; text_of(alloc, &replied)?.as_str(), reply, "{step:?}");
     Ok(())
@@ -136,6 +114,21 @@ fn a_rollback_goes_to_a_mark_and_starts_an_epoch(rt: HostRuntime) -> Result<(), 
     expect_all(&rt, rt.alloc(), &marked_twice)?;
     let unmarked = [(Step::Rollback(5), "Reset { least: None }")];
     expect_all(&rt, rt.alloc(), &unmarked)
+}
+
+#[test]
+fn a_delete_takes_a_number_and_a_sync_changes_nothing(rt: HostRuntime) -> Result<(), Fail> {
+    let rows = [
+        (Step::Set("a"), "Seq { seq: 1 }"),
+        (Step::Del("a"), "Seq { seq: 2 }"),
+        (Step::Get("a"), "Absent"),
+        (Step::Sync, "Synced"),
+        (
+            Step::Stats,
+            "Stats { length: 2, live: 0, bytes: 0, marks: 0, epoch: 0 }",
+        ),
+    ];
+    expect_all(&rt, rt.alloc(), &rows)
 }
 
 /// Sets of a, b, then a mark, sets of c, d, e, then a mark, and sets of f, g; then the two last calls.
@@ -218,4 +211,31 @@ fn a_compaction_counts_the_first_places_and_a_clear_leaves_nothing(
         (Step::Set("b"), "Seq { seq: 1 }"),
     ];
     expect_all(&rt, rt.alloc(), &rows)
+}
+
+#[test]
+fn a_change_and_its_copy_read_alike(rt: HostRuntime) -> Result<(), Fail> {
+    let alloc = rt.alloc();
+    let doc = Doc::new(alloc, b"x")?.ok_or("no document")?;
+    let changes = [
+        Change::Set {
+            key: key(alloc, "a")?,
+            doc,
+        },
+        Change::Del {
+            key: key(alloc, "a")?,
+        },
+        Change::Mark,
+        Change::Forget { mark: 3 },
+        Change::Back { mark: 4 },
+        Change::Clear,
+    ];
+    for change in &changes {
+        let copy = change.copy(alloc)?;
+        assert_eq!(rt;
+            format!(in alloc; "{copy:?}")?.as_str(),
+            format!(in alloc; "{change:?}")?.as_str()
+        );
+    }
+    Ok(())
 }

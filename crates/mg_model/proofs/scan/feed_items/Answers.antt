@@ -1,9 +1,9 @@
-use Rattle.std.proofs.Common.{◌≡◌, ◌∙◌, ap, ◌++◌, ◌∷◌, [], ◌<◌, ◌≤◌, ◌+◌, ◌≢◌, length, arith}
+use Rattle.std.proofs.Common.{◌≡◌, ◌∙◌, ap, ◌++◌, ◌∷◌, [], ◌<◌, ◌≤◌, ◌+◌, ◌&&◌, ◌==◌, nat_lt, true, false, length, arith}
 use Rattle.std.specs.Bool.{if◌then◌else◌}
 use Rattle.mg_model.specs.Mutations.{held, newest, item_of}
-use Rattle.mg_model.proofs.ListLemmas.{feed_more, feed_so_far, fed_yes, fed_old, fed_before, fed_full}
+use Rattle.mg_model.proofs.ListLemmas.{feed_more, feed_so_far, fed_due, fed_not_due, fed_full}
 use Rattle.mg_model.proofs.scan.feed_items.Goals as goal
-use Rattle.mg_model.proofs.scan.feed_items.Goals.{then-len-from+then-after-seq+then-newest_place-place+in_ok-numbered+in_ok-push, else-len-from, else-len-from-via-then-len-from+then-after-seq+else-newest_place-place, else-len-from-via-then-len-from+else-after-seq, else-len-from-via-else-len-from}
+use Rattle.mg_model.proofs.scan.feed_items.Goals.{then-len-from+then-is_due+in_ok-numbered+in_ok-push, else-len-from, else-len-from-via-then-len-from+else-is_due, else-len-from-via-else-len-from}
 
 pub loop-index-preserved : goal.loop-index-preserved
 loop-index-preserved c =
@@ -15,24 +15,20 @@ loop-index-preserved c =
     let so_far = feed_so_far ms after limit i in
     let more = feed_more ms after limit i x c.loop-index-test.true c.index-mutations-index.is in
     elim c.if-len-from.branch [
-      | then-len-from+then-after-seq+then-newest_place-place+in_ok-numbered+in_ok-push w ↦
-          let a : newest (held ms) x.key ≡ i + 1 = cc in
-          let b : after < i + 1 = omega arith in
-          let r : length so_far < limit = (let e = ap length c.loop-index.invariant in omega arith) in
-          let step = more ∙ ap (λ t. if t then so_far ++ item_of (i + 1) x ∷ [] else so_far) (fed_yes ms after limit i x a b r) in
+      | then-len-from+then-is_due+in_ok-numbered+in_ok-push w ↦
+          let due : (nat_lt after (i + 1) && (newest (held ms) x.key == i + 1)) ≡ true = cc in
+          let room : length so_far < limit = (let e = ap length c.loop-index.invariant in omega arith) in
+          let step = more ∙ ap (λ t. if t then so_far ++ item_of (i + 1) x ∷ [] else so_far) (fed_due ms after limit i x due room) in
           cc (step, w.in_ok-push.ensures.ok, w.in_ok-numbered.ensures.ok)
       | else-len-from w ↦
           elim w.else-len-from.branch [
-            | else-len-from-via-then-len-from+then-after-seq+else-newest_place-place w' ↦
-                let a : newest (held ms) x.key ≢ i + 1 = λ e. w'.if-newest_place-place.false (cc) in
-                let step = more ∙ ap (λ t. if t then so_far ++ item_of (i + 1) x ∷ [] else so_far) (fed_old ms after limit i x a) in
-                cc step
-            | else-len-from-via-then-len-from+else-after-seq w' ↦
-                let step = more ∙ ap (λ t. if t then so_far ++ item_of (i + 1) x ∷ [] else so_far) (fed_before ms after limit i x (omega arith)) in
+            | else-len-from-via-then-len-from+else-is_due w' ↦
+                let not_due : (nat_lt after (i + 1) && (newest (held ms) x.key == i + 1)) ≡ false = cc in
+                let step = more ∙ ap (λ t. if t then so_far ++ item_of (i + 1) x ∷ [] else so_far) (fed_not_due ms after limit i x not_due) in
                 cc step
             | else-len-from-via-else-len-from w' ↦
-                let r : limit ≤ length so_far = (let e = ap length c.loop-index.invariant in omega arith) in
-                let step = more ∙ ap (λ t. if t then so_far ++ item_of (i + 1) x ∷ [] else so_far) (fed_full ms after limit i x r) in
+                let full : limit ≤ length so_far = (let e = ap length c.loop-index.invariant in omega arith) in
+                let step = more ∙ ap (λ t. if t then so_far ++ item_of (i + 1) x ∷ [] else so_far) (fed_full ms after limit i x full) in
                 cc step
           ]
     ]

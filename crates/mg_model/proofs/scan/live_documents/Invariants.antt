@@ -1,6 +1,6 @@
 use Rattle.std.proofs.Common.{◌≡◌, ◌≤◌, ◌*◌, length}
 use Rattle.std.specs.List.{sum_by}
-use Rattle.mg_model.specs.Mutations.{doc_size}
+use Rattle.mg_types.specs.Items.{doc_size}
 use Rattle.mg_model.proofs.ListLemmas.{live_sets}
 use Rattle.mg_model.proofs.scan.live_documents.Given as goal
 

@@ -1,6 +1,6 @@
 use Rattle.std.proofs.Common.{◌≡◌, ◌≤◌, ◌*◌, length}
 use Rattle.std.specs.List.{sum_by}
-use Rattle.mg_model.specs.Mutations.{size_of}
+use Rattle.mg_types.specs.Items.{size_of}
 use Rattle.mg_model.proofs.ListLemmas.{live_so_far}
 use Rattle.mg_model.proofs.scan.live_sizes.Given as goal
 
