@@ -8,11 +8,11 @@ use Rattle.std.specs.Cmp.Lexicographic.{same_text}
 use Rattle.std.proofs.lemmas.List.{append-nil}
 use Rattle.std.proofs.lemmas.Bool.{ltb-true, lt-ltb}
 use Rattle.std.proofs.lemmas.Bool.Decides.{nat_tests}
-use Rattle.mg_model.specs.Bytes.{IsDoc, IsKey}
+use Rattle.mg_types.specs.Bytes.{IsDoc, IsKey}
 use Rattle.mg_model.specs.declared.calls.Call.{Call}
 use Rattle.mg_model.specs.declared.calls.Call.TheVariants as call
-use Rattle.mg_model.specs.declared.faults.Why.{Why}
-use Rattle.mg_model.specs.declared.faults.Why.TheVariants.{Client, Verb, Part, Key, Doc, Number}
+use Rattle.mg_types.specs.declared.faults.Why.{Why}
+use Rattle.mg_types.specs.declared.faults.Why.TheVariants.{Client, Verb, Part, Key, Doc, Number}
 use Rattle.mg_script.specs.declared.fields.Verb.{Verb as VerbWord}
 use Rattle.mg_script.specs.declared.fields.Verb.TheVariants as verb
 use Rattle.mg_script.specs.declared.script.Line.{Line}

@@ -11,8 +11,8 @@ use Rattle.std.proofs.lemmas.Bool.{eqb-true}
 use Rattle.std.proofs.lemmas.Bool.Decides.{nat_tests}
 use Rattle.mg_model.specs.declared.calls.Call.{Call}
 use Rattle.mg_model.specs.declared.calls.Call.TheVariants as call
-use Rattle.mg_model.specs.declared.faults.Why.{Why}
-use Rattle.mg_model.specs.declared.faults.Why.TheVariants.{Ending}
+use Rattle.mg_types.specs.declared.faults.Why.{Why}
+use Rattle.mg_types.specs.declared.faults.Why.TheVariants.{Ending}
 use Rattle.mg_script.specs.declared.script.Line.{Line}
 use Rattle.mg_script.specs.Tokens.{is_plain, hex_digit, byte_text, token_of}
 use Rattle.mg_script.specs.Script.{◌>>=◌, fields_of, line_of, lines_of, numbered, script_of}
@@ -123,12 +123,12 @@ verb_solid (call.Del key) = (omega arith, (omega arith, (omega arith, tt)))
 verb_solid (call.Get key) = (omega arith, (omega arith, (omega arith, tt)))
 verb_solid (call.Feed epoch after limit) = (omega arith, (omega arith, (omega arith, (omega arith, tt))))
 verb_solid call.Stats = (omega arith, (omega arith, (omega arith, (omega arith, (omega arith, tt)))))
-verb_solid call.Mark = tt
-verb_solid (call.Forget mark) = tt
-verb_solid (call.Rollback to) = tt
-verb_solid call.Clear = tt
-verb_solid call.Sync = tt
-verb_solid (call.Compact through) = tt
+verb_solid call.Mark = (omega arith, (omega arith, (omega arith, (omega arith, tt))))
+verb_solid (call.Forget mark) = (omega arith, (omega arith, (omega arith, (omega arith, (omega arith, (omega arith, tt))))))
+verb_solid (call.Rollback to) = (omega arith, (omega arith, (omega arith, (omega arith, (omega arith, (omega arith, (omega arith, (omega arith, tt))))))))
+verb_solid call.Clear = (omega arith, (omega arith, (omega arith, (omega arith, (omega arith, tt)))))
+verb_solid call.Sync = (omega arith, (omega arith, (omega arith, (omega arith, tt))))
+verb_solid (call.Compact through) = (omega arith, (omega arith, (omega arith, (omega arith, (omega arith, (omega arith, (omega arith, tt)))))))
 
 call_solid : (c : Call) → IsAskable c → AllByRecursion Solid (call_fields c)
 call_solid (call.Set key doc) k = (token_solid key, (token_solid doc, tt))
@@ -136,12 +136,12 @@ call_solid (call.Del key) k = (token_solid key, tt)
 call_solid (call.Get key) k = (token_solid key, tt)
 call_solid (call.Feed epoch after limit) k = (decimal_solid epoch k.0, (decimal_solid after k.1, (decimal_solid limit (omega (arith, k.3)), tt)))
 call_solid call.Stats k = tt
-call_solid call.Mark k = tt
-call_solid (call.Forget mark) k = tt
-call_solid (call.Rollback to) k = tt
-call_solid call.Clear k = tt
-call_solid call.Sync k = tt
-call_solid (call.Compact through) k = tt
+call_solid call.Mark k = absurd k
+call_solid (call.Forget mark) k = absurd k
+call_solid (call.Rollback to) k = absurd k
+call_solid call.Clear k = absurd k
+call_solid call.Sync k = absurd k
+call_solid (call.Compact through) k = absurd k
 
 all_free : (c : ℕ) (fields : List (List ℕ)) → c < 33 → AllByRecursion Solid fields → AllByRecursion (Free c) fields
 all_free c [] l s = tt

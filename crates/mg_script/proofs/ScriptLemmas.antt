@@ -5,8 +5,8 @@ use Rattle.std.specs.List.{slice_split, join_with_byte}
 use Rattle.std.proofs.lemmas.List.{append_assoc, append-nil, length_push}
 use Rattle.std.proofs.lemmas.List.Splits.{length-slice_split, join_with_byte-slice_split}
 use Rattle.std.proofs.lemmas.Bool.Decides.{nat_tests}
-use Rattle.mg_model.specs.declared.faults.Why.{Why}
-use Rattle.mg_model.specs.declared.faults.Why.TheVariants.{Ending}
+use Rattle.mg_types.specs.declared.faults.Why.{Why}
+use Rattle.mg_types.specs.declared.faults.Why.TheVariants.{Ending}
 use Rattle.mg_script.specs.declared.script.Line.{Line}
 use Rattle.mg_script.specs.declared.fields.LineError.{LineError}
 use Rattle.mg_script.specs.declared.fields.LineError.TheVariants as errors

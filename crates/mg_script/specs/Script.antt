@@ -5,10 +5,10 @@ use Rattle.std.specs.List.{slice_split}
 use Rattle.std.specs.Str.{bytes_eq}
 use Rattle.mg_model.specs.declared.calls.Call.{Call}
 use Rattle.mg_model.specs.declared.calls.Call.TheVariants as call
-use Rattle.mg_model.specs.declared.faults.Fault.{Fault}
-use Rattle.mg_model.specs.declared.faults.Fault.TheVariants.{NoMemory, BadLine}
-use Rattle.mg_model.specs.declared.faults.Why.{Why}
-use Rattle.mg_model.specs.declared.faults.Why.TheVariants.{Ending, Client, Verb, Part, Key, Doc, Number, Extra}
+use Rattle.mg_types.specs.declared.faults.Fault.{Fault}
+use Rattle.mg_types.specs.declared.faults.Fault.TheVariants.{NoMemory, BadLine}
+use Rattle.mg_types.specs.declared.faults.Why.{Why}
+use Rattle.mg_types.specs.declared.faults.Why.TheVariants.{Ending, Client, Verb, Part, Key, Doc, Number, Extra}
 use Rattle.mg_script.specs.declared.script.Line.{Line}
 use Rattle.mg_script.specs.declared.fields.Verb.{Verb as VerbWord}
 use Rattle.mg_script.specs.declared.fields.Verb.TheVariants as verb
@@ -136,7 +136,7 @@ abbrev pub located : ℕ → LineError → Fault
 located n errors.NoMemory = NoMemory
 located n (errors.Wrong why) = BadLine n why
 
--- a call that a script can ask for
+-- a call whose line is read
 abbrev pub IsSpoken : Call → Type 0
 IsSpoken (call.Set key doc) = Unit {0}
 IsSpoken (call.Del key) = Unit {0}

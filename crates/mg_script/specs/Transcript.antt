@@ -2,16 +2,17 @@
 use Rattle.std.specs.Prelude.{ℕ, List, [], ◌++◌, codes, Option, None, Some, Result, Ok, Err}
 use Rattle.std.specs.Fmt.{decimal}
 use Rattle.std.specs.List.{flat_map}
-use Rattle.mg_model.specs.declared.documents.Doc.{Doc}
-use Rattle.mg_model.specs.declared.documents.Item.{Item}
-use Rattle.mg_model.specs.declared.faults.Fault.{Fault}
-use Rattle.mg_model.specs.declared.faults.Fault.TheVariants as fault
-use Rattle.mg_model.specs.declared.faults.FileId.{FileId}
-use Rattle.mg_model.specs.declared.faults.Why.{Why}
-use Rattle.mg_model.specs.declared.faults.Why.TheVariants as why
+use Rattle.mg_types.specs.declared.documents.Doc.{Doc}
+use Rattle.mg_types.specs.declared.items.Item.{Item}
+use Rattle.mg_types.specs.declared.faults.Fault.{Fault}
+use Rattle.mg_types.specs.declared.faults.Fault.TheVariants as fault
+use Rattle.mg_types.specs.declared.names.FileId.{FileId}
+use Rattle.mg_types.specs.declared.faults.Why.{Why}
+use Rattle.mg_types.specs.declared.faults.Why.TheVariants as why
 use Rattle.mg_model.specs.declared.replies.Answer.{Answer}
 use Rattle.mg_model.specs.declared.replies.Reply.{Reply}
 use Rattle.mg_model.specs.declared.replies.Reply.TheVariants as reply
+use Rattle.mg_types.specs.Names.{kind_code}
 use Rattle.mg_script.specs.Tokens.{token_of}
 
 -- a word and the number behind it
@@ -92,7 +93,7 @@ end_line part calls length epoch = field (codes "end ") part ++ field (codes " "
 
 -- a file's partition, kind and number, behind a word
 abbrev pub file_text : List ℕ → FileId → List ℕ
-file_text word file = field word file.part ++ field (codes " ") file.kind ++ field (codes " ") file.number
+file_text word file = field word file.part ++ field (codes " ") (kind_code file.kind) ++ field (codes " ") file.number
 
 -- the word for what is wrong with a line
 abbrev pub why_word : Why → List ℕ

@@ -3,7 +3,7 @@
 ghost use Rattle.std.specs.Prelude.{◌≡◌, ◌==◌, [], ◌∷◌, MatchOption, ◌<◌, ◌≤◌, IfOk};
 ghost use Rattle.mg_script.specs.declared.fields.LineError.TheVariants.{NoMemory};
 ghost use Rattle.std.specs.List.{slice_split};
-ghost use Rattle.mg_model.specs.declared.faults.Why.TheVariants as why;
+ghost use Rattle.mg_types.specs.declared.faults.Why.TheVariants as why;
 ghost use Rattle.mg_script.specs.Tokens.{number_of};
 ghost use Rattle.mg_script.specs.Script.{call_of, client_of, doc_of, Gives, IsSpoken, key_of, limit_of, no_more, part_of, take_field, verb_of};
 

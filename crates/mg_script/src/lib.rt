@@ -12,7 +12,7 @@ mod transcript;
 pub use laws::scripts_have_one_spelling;
 pub use messages::fault_text;
 pub use script::{Line, read_script};
-pub use transcript::{put_answer, put_end, put_line};
+pub use transcript::{has_line, put_answer, put_end, put_line};
 
 #[cfg(test)]
 mod tests;

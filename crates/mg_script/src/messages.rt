@@ -11,7 +11,7 @@ fn put_file(out: &mut Vec<u8>, word: &[u8], file: FileId) -> Result<(), AllocErr
     ensures { OnOk result (out.new.items ≡ out.old.items ++ file_text word.now file) }
 {
     put_field(out, word, u64::from(file.part))?;
-    put_field(out, b" ", u64::from(file.kind))?;
+    put_field(out, b" ", u64::from(file.kind.code()))?;
     put_field(out, b" ", file.number)
 }
 

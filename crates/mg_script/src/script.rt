@@ -1,6 +1,6 @@
 //! A script: a line for each call.
 
-ghost use Rattle.std.specs.Prelude.{◌≡◌, ◌≤◌, length, IfErr, IfOk, Ok};
+ghost use Rattle.std.specs.Prelude.{◌≡◌, ◌≤◌, ◌*◌, length, IfErr, IfOk, Ok};
 ghost use Rattle.std.specs.List.{All};
 ghost use Rattle.mg_script.specs.Lines.{script_text};
 ghost use Rattle.mg_script.specs.Script.{fields_of, Gives, IsLine, line_of, located, Refuses, script_of};
@@ -55,7 +55,9 @@ pub fn read_script(alloc: Global, bytes: &[u8], parts: u16) -> Result<Vec<Line>,
 }
 
 /// No more lines than this can be calls.
-fn line_count(bytes: &[u8]) -> usize {
+fn line_count(bytes: &[u8]) -> usize
+    ensures { 9 * result ≤ length bytes.now }
+{
     let line_feeds = bytes.iter().filter(|byte| **byte == b'\n').count();
     line_feeds.min(bytes.len() / SHORTEST_LINE)
 }

@@ -1,8 +1,8 @@
 //! Texts of answers and of faults, compared with the formats' own words.
 
-use crate::{Line, fault_text, put_answer, put_end, put_line, read_script};
+use crate::{Line, fault_text, has_line, put_answer, put_end, put_line, read_script};
 use mg_items::Items;
-use mg_model::{Answer, Call, Doc, Fault, FileId, Item, Key, Reply, Why};
+use mg_model::{Answer, Call, Doc, Fault, FileId, Item, Key, Kind, Reply, Why};
 use std::alloc::Global;
 use std::process::Abort;
 use std::test::Fail;
@@ -95,7 +95,7 @@ fn faults_and_ends_are_spelled(rt: HostRuntime) -> Result<(), Fail> {
     );
     let file = FileId {
         part: 2,
-        kind: 1,
+        kind: Kind::Table,
         number: 9,
     };
     let rows = [
@@ -168,37 +168,50 @@ fn a_script_is_read(rt: HostRuntime) -> Result<(), Fail> {
 }
 
 #[test]
-fn a_line_is_written(rt: HostRuntime) -> Result<(), Fail> {
+fn the_lines_of_all_verbs_are_written(rt: HostRuntime) -> Result<(), Fail> {
     let alloc = rt.alloc();
-    let mut out = Vec::new(alloc);
-    let set = Line {
-        client: 0,
-        part: 1,
-        call: Call::Set {
-            key: key(alloc, "%")?,
-            doc: doc(alloc, "a b")?,
-        },
+    let set = Call::Set {
+        key: key(alloc, "%")?,
+        doc: doc(alloc, "a b")?,
     };
-    put_line(&set, &mut out)?;
-    let feed = Line {
-        client: 15,
-        part: 0,
-        call: Call::Feed {
-            epoch: 1,
-            after: 2,
-            limit: 1000,
-        },
+    let feed = Call::Feed {
+        epoch: 1,
+        after: 2,
+        limit: 1000,
     };
-    put_line(&feed, &mut out)?;
-    let stats = Line {
-        client: 7,
-        part: 63,
-        call: Call::Stats,
-    };
-    put_line(&stats, &mut out)?;
-    assert_eq!(rt;
-        out.as_slice(),
-        b"0 set 1 %25 a%20b\n15 feed 0 1 2 1000\n7 stats 63\n".as_slice()
-    );
+    let rows = [
+        (set, "15 set 63 %25 a%20b\n"),
+        (
+            Call::Del {
+                key: key(alloc, "k")?,
+            },
+            "15 del 63 k\n",
+        ),
+        (
+            Call::Get {
+                key: key(alloc, "k")?,
+            },
+            "15 get 63 k\n",
+        ),
+        (feed, "15 feed 63 1 2 1000\n"),
+        (Call::Mark, "15 mark 63\n"),
+        (Call::Forget { mark: 3 }, "15 forget 63 3\n"),
+        (Call::Rollback { to: 4 }, "15 rollback 63 4\n"),
+        (Call::Clear, "15 clear 63\n"),
+        (Call::Sync, "15 sync 63\n"),
+        (Call::Compact { through: 0 }, "15 compact 63\n"),
+        (Call::Stats, "15 stats 63\n"),
+    ];
+    for (call, text) in rows {
+        let line = Line {
+            client: 15,
+            part: 63,
+            call,
+        };
+        assert!(rt; has_line(&line.call));
+        let mut out = Vec::new(alloc);
+        put_line(&line, &mut out)?;
+        assert_eq!(rt; out.as_slice(), text.as_bytes());
+    }
     Ok(())
 }

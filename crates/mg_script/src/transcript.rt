@@ -1,9 +1,8 @@
 //! A transcript: a line for each answer, and an end line for each partition.
 
-ghost use Rattle.std.specs.Prelude.{◌≡◌, ◌<◌, ◌∷◌, ◌++◌, decimal, IfErr, IsOkUnless, OnOk};
+ghost use Rattle.std.specs.Prelude.{◌≡◌, ◌↔◌, ◌<◌, ◌∷◌, ◌++◌, decimal, IfErr, IsOkUnless, IsTrue, OnOk};
 ghost use Rattle.std.specs.List.{flat_map};
-ghost use Rattle.mg_script.specs.Lines.{call_fields, line_parts, line_text, verb_word};
-ghost use Rattle.mg_script.specs.Script.{IsSpoken};
+ghost use Rattle.mg_script.specs.Lines.{call_fields, HasLine, line_parts, line_text, verb_word};
 ghost use Rattle.mg_script.specs.Tokens.{byte_text, hex_digit, token_of};
 ghost use Rattle.mg_script.specs.Transcript.{answer_line, change_text, end_line, fault_word, field, item_text, IsLineFault, mark_text, place_text, reply_text, result_text};
 
@@ -244,10 +243,21 @@ pub fn put_end(
     Ok(())
 }
 
-/// Appends the line of a call. After an error, the only one being want of memory, a front of the line may have
-/// been appended.
+/// Whether the call has a line: a feed's limit is from 1 to 1,000, and a compaction's `through` is 0.
+pub fn has_line(call: &Call) -> bool
+    ensures { IsTrue result ↔ HasLine call.now }
+{
+    match call {
+        Call::Feed { limit, .. } => 1 <= *limit && *limit <= 1000,
+        Call::Compact { through } => *through == 0,
+        _ => true,
+    }
+}
+
+/// Appends the line of a call, whichever its verb; a compaction's line doesn't say how far it goes. After an error, the
+/// only one being want of memory, a front of the line may have been appended.
 pub fn put_line(line: &Line, out: &mut Vec<u8>) -> Result<(), Fault>
-    requires { IsSpoken line.now.call }
+    requires { HasLine line.now.call }
     ensures ok { OnOk result (out.new.items ≡ out.old.items ++ line_text line.now) }
     ensures err { IsOkUnless result Fault.NoMemory }
 {
@@ -275,8 +285,13 @@ fn verb_of_call(call: &Call) -> &'static [u8]
         Call::Del { .. } => b"del",
         Call::Get { .. } => b"get",
         Call::Feed { .. } => b"feed",
+        Call::Mark => b"mark",
+        Call::Forget { .. } => b"forget",
+        Call::Rollback { .. } => b"rollback",
+        Call::Clear => b"clear",
+        Call::Sync => b"sync",
+        Call::Compact { .. } => b"compact",
         Call::Stats => b"stats",
-        _ => b"",
     }
 }
 
@@ -304,6 +319,9 @@ fn put_fields(out: &mut Vec<u8>, call: &Call) -> Result<(), AllocError>
             put_field(out, b" ", *after)?;
             put_field(out, b" ", u64::from(*limit))
         }
-        _ => Ok(()),
+        Call::Forget { mark: number } | Call::Rollback { to: number } => {
+            put_field(out, b" ", *number)
+        }
+        Call::Mark | Call::Clear | Call::Sync | Call::Compact { .. } | Call::Stats => Ok(()),
     }
 }
