@@ -1,15 +1,12 @@
 //! The program `magma`: it answers the script on standard input by a transcript on standard output.
 //!
-//! Everything that matters stands in `mg_run`; here the real streams are made, and a fault is said on
-//! standard error.
+//! Everything that matters stands in `mg_run`; here the real streams are made.
 #![tactic(auto)]
 
 use mg_io::{StdSink, StdSource};
 use mg_model::Fault;
-use mg_run::{Ran, alone};
-use mg_script::fault_text;
+use mg_run::{Ending, alone, end_program, refused};
 use std::alloc::AllocError;
-use std::io::Write;
 use std::process::ExitCode;
 use std::{env, io};
 
@@ -20,16 +17,12 @@ fn main(rt: HostRuntime) -> ExitCode {
             let mut out = StdSink::new(rt.stdout());
             alone(rt.alloc(), words.as_slice(), &mut input, &mut out)
         }
-        Err(_) => Ran {
-            status: 4,
-            fault: Some(Fault::NoMemory),
-        },
+        Err(_) => refused(Fault::NoMemory),
     };
-    if let Some(fault) = ran.fault {
-        // Where standard error takes nothing, the status still tells.
-        let _ = say(&rt, &fault);
-    }
-    ExitCode::from(ran.status)
+    let mut error = StdSink::new(rt.stderr());
+    // Where standard error takes nothing, the status still tells.
+    let Ending { code, said: _ } = end_program(rt.alloc(), &ran, &mut error);
+    code
 }
 
 /// The words after the program's name. Words that are not all text give none, which are bad words too.
@@ -39,14 +32,4 @@ fn words_of(rt: &HostRuntime) -> Result<Vec<String>, AllocError> {
         Err(error) if error.kind() == io::ErrorKind::OutOfMemory => Err(AllocError),
         Err(_) => Ok(Vec::new(rt.alloc())),
     }
-}
-
-/// Writes a fault's text on standard error.
-fn say(rt: &HostRuntime, fault: &Fault) -> io::Result<()> {
-    let mut text = Vec::from_slice(rt.alloc(), b"magma: ")?;
-    if fault_text(fault, &mut text).is_err() {
-        return Err(io::Error::from(io::ErrorKind::OutOfMemory));
-    }
-    text.push(b'\n')?;
-    rt.stderr().write_all(&text)
 }

@@ -1,34 +1,50 @@
 -- Answers to lines, one more at the end.
-use Rattle.std.proofs.Common.{◌≡◌, ℕ, List, [], ◌∷◌, ◌++◌, map, refl, ap, subst, sym, ◌∙◌}
+use Rattle.std.proofs.Common.{◌≡◌, ℕ, List, [], ◌∷◌, ◌++◌, map, ap, subst, sym, ◌∙◌}
 use Rattle.std.specs.List.{fold}
 use Rattle.std.proofs.lemmas.List.{append_assoc, append-nil, map-append}
 use Rattle.std.proofs.lemmas.List.Sums.{fold-append}
+use Rattle.std.proofs.lemmas.Grind.{flat_map-append}
 use Rattle.mg_model.specs.declared.replies.Answer.{Answer}
-use Rattle.mg_model.specs.History.{History}
-use Rattle.mg_model.specs.State.{State}
 use Rattle.mg_script.specs.declared.script.Line.{Line}
-use Rattle.mg_script.specs.Transcript.{answer_line}
-use Rattle.mg_run.specs.Answers.{AllFit, Fits}
-use Rattle.mg_run.specs.Runs.{answer_lines, answers_status, call_number, graver, result_status}
+use Rattle.mg_model.specs.Placed.{Opening, Placed}
+use Rattle.mg_run.specs.Placed.{placed_by, placed_of}
+use Rattle.mg_run.specs.Answers.{AllFit, FitsNext}
+use Rattle.mg_run.specs.Runs.{answers_status, call_texts, graver, joined, numbered, result_status, numbered_answer, numbered_text, NumberedAnswer}
+
+-- the calls that took a place, with one more
+pub placed-push : (opening : Opening) (before : List Placed) (lines : List Line) (answers : List Answer) (line : Line) (answer : Answer) → AllFit opening before lines answers
+    → placed_of (lines ++ line ∷ []) (answers ++ answer ∷ []) ≡ placed_of lines answers ++ placed_by line answer
+placed-push opening before [] [] line answer e = append-nil (placed_by line answer)
+placed-push opening before [] (a ∷ answers) line answer e = absurd e
+placed-push opening before (l ∷ lines) [] line answer e = absurd e
+placed-push opening before (l ∷ lines) (a ∷ answers) line answer e =
+    ap (λ (ps : List Placed). placed_by l a ++ ps) (placed-push opening (before ++ placed_by l a) lines answers line answer e.1) ∙ sym (append_assoc (placed_by l a) (placed_of lines answers) (placed_by line answer))
 
 -- one answer more fits
-pub fit-push : (start : State) (before mid after : History) (lines : List Line) (answers : List Answer) (line : Line) (answer : Answer) → AllFit start before lines answers mid → Fits start mid line answer after
-    → AllFit start before (lines ++ line ∷ []) (answers ++ answer ∷ []) after
-fit-push start before mid after [] [] line answer e f = (after, subst (λ h. Fits start h line answer after) e f, refl)
-fit-push start before mid after [] (a ∷ answers) line answer e f = absurd e
-fit-push start before mid after (l ∷ lines) [] line answer e f = absurd e
-fit-push start before mid after (l ∷ lines) (a ∷ answers) line answer e f = (e.0, e.1, fit-push start e.0 mid after lines answers line answer e.2 f)
+pub fit-push : (opening : Opening) (before : List Placed) (lines : List Line) (answers : List Answer) (line : Line) (answer : Answer) → AllFit opening before lines answers → FitsNext opening (before ++ placed_of lines answers) line answer
+    → AllFit opening before (lines ++ line ∷ []) (answers ++ answer ∷ [])
+fit-push opening before [] [] line answer e f = (subst (λ (ps : List Placed). FitsNext opening ps line answer) (append-nil before) f, tt)
+fit-push opening before [] (a ∷ answers) line answer e f = absurd e
+fit-push opening before (l ∷ lines) [] line answer e f = absurd e
+fit-push opening before (l ∷ lines) (a ∷ answers) line answer e f =
+    (e.0, fit-push opening (before ++ placed_by l a) lines answers line answer e.1 (subst (λ (ps : List Placed). FitsNext opening ps line answer) (sym (append_assoc before (placed_by l a) (placed_of lines answers))) f))
+
+numbered-push : (opening : Opening) (before : List Placed) (earlier lines : List Line) (answers : List Answer) (line : Line) (answer : Answer) → AllFit opening before lines answers
+    → numbered earlier (lines ++ line ∷ []) (answers ++ answer ∷ []) ≡ numbered earlier lines answers ++ numbered_answer (earlier ++ lines) line answer ∷ []
+numbered-push opening before earlier [] [] line answer e = ap (λ (ls : List Line). numbered_answer ls line answer ∷ []) (sym (append-nil earlier))
+numbered-push opening before earlier [] (a ∷ answers) line answer e = absurd e
+numbered-push opening before earlier (l ∷ lines) [] line answer e = absurd e
+numbered-push opening before earlier (l ∷ lines) (a ∷ answers) line answer e =
+    ap (λ (ts : List NumberedAnswer). numbered_answer earlier l a ∷ ts) (numbered-push opening (before ++ placed_by l a) (earlier ++ l ∷ []) lines answers line answer e.1
+    ∙ ap (λ (ls : List Line). numbered (earlier ++ l ∷ []) lines answers ++ numbered_answer ls line answer ∷ []) (append_assoc earlier (l ∷ []) lines))
 
 -- one line more is written
-pub lines-push : (start : State) (before mid : History) (earlier lines : List Line) (answers : List Answer) (line : Line) (answer : Answer) → AllFit start before lines answers mid
-    → answer_lines earlier (lines ++ line ∷ []) (answers ++ answer ∷ []) ≡ answer_lines earlier lines answers ++ answer_line line.client (call_number (earlier ++ lines) line) line.part answer
-lines-push start before mid earlier [] [] line answer e = append-nil _ ∙ ap (λ (ls : List Line). answer_line line.client (call_number ls line) line.part answer) (sym (append-nil earlier))
-lines-push start before mid earlier [] (a ∷ answers) line answer e = absurd e
-lines-push start before mid earlier (l ∷ lines) [] line answer e = absurd e
-lines-push start before mid earlier (l ∷ lines) (a ∷ answers) line answer e =
-    ap (λ (t : List ℕ). answer_line l.client (call_number earlier l) l.part a ++ t) (lines-push start e.0 mid (earlier ++ l ∷ []) lines answers line answer e.2
-    ∙ ap (λ (ls : List Line). answer_lines (earlier ++ l ∷ []) lines answers ++ answer_line line.client (call_number ls line) line.part answer) (append_assoc earlier (l ∷ []) lines))
-    ∙ sym (append_assoc (answer_line l.client (call_number earlier l) l.part a) (answer_lines (earlier ++ l ∷ []) lines answers) (answer_line line.client (call_number (earlier ++ l ∷ lines) line) line.part answer))
+pub texts-push : (opening : Opening) (lines : List Line) (answers : List Answer) (line : Line) (answer : Answer) → AllFit opening [] lines answers
+    → call_texts (lines ++ line ∷ []) (answers ++ answer ∷ []) ≡ call_texts lines answers ++ numbered_text (numbered_answer lines line answer) ∷ []
+texts-push opening lines answers line answer e = ap (map numbered_text) (numbered-push opening [] [] lines answers line answer e) ∙ map-append numbered_text (numbered [] lines answers) (numbered_answer lines line answer ∷ [])
+
+pub joined-push : (pieces : List (List ℕ)) (piece : List ℕ) → joined (pieces ++ piece ∷ []) ≡ joined pieces ++ piece
+joined-push pieces piece = flat_map-append (λ (p : List ℕ). p) pieces (piece ∷ []) ∙ ap (λ (t : List ℕ). joined pieces ++ t) (append-nil piece)
 
 -- one status more
 pub status-push : (answers : List Answer) (answer : Answer) → answers_status (answers ++ answer ∷ []) ≡ graver (answers_status answers) (result_status answer.result)

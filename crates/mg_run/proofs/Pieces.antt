@@ -1,30 +1,39 @@
 -- Reading and writing piece by piece, as loops do.
-use Rattle.std.proofs.Common.{◌≡◌, ◌≤◌, ℕ, List, ◌++◌, take, drop, Option, ap, sym, ◌∙◌, arith}
-use Rattle.std.proofs.lemmas.List.{append_assoc, take-append-drop}
+use Rattle.std.proofs.Common.{◌≡◌, ◌≤◌, ℕ, ◌+◌, ◌-◌, List, [], ◌++◌, length, take, drop, Option, ap, sym, ◌∙◌, arith}
+use Rattle.std.proofs.lemmas.List.{append_assoc, length-append, take-append-drop}
 use Rattle.mg_faults.specs.Causes.{Rose}
-use Rattle.mg_model.specs.declared.faults.Fault.{Fault}
-use Rattle.mg_model.specs.declared.faults.Fault.TheVariants as fault
-use Rattle.mg_run.specs.Runs.{FailsRead, StopsReading}
+use Rattle.mg_types.specs.declared.faults.Fault.{Fault}
+use Rattle.mg_types.specs.declared.faults.Fault.TheVariants as fault
+use Rattle.mg_run.specs.Runs.{FailsRead, ReadsAll, StopsReading, TakesSome, script_limit}
+use Rattle.std.specs.Io.KnownBytes.{Consumes, Keeps}
+use Rattle.std.proofs.KnownBytes.{Consumes-kept, Consumes-nil, Consumes-trans}
 
 -- a count that rose from a later moment on rose from an earlier one on
 pub rose_since : (first before now : ℕ) → first ≤ before → Rose before now → Rose first now
 rose_since first before now l r = omega arith
 
 -- a read that fails stops the reading
-pub stops_reading : (left left' : Option (List ℕ)) (first before now : ℕ) (f : Fault) → first ≤ before → FailsRead before now f → StopsReading left left' first now f
-stops_reading left left' first before now fault.NoMemory l r = tt
-stops_reading left left' first before now fault.ReadFault l r = rose_since first before now l r
-stops_reading left left' first before now (fault.Damaged file at kept found) l r = r
-stops_reading left left' first before now (fault.Missing file) l r = r
-stops_reading left left' first before now (fault.Gap part applied low high) l r = r
-stops_reading left left' first before now (fault.BadLine line why) l r = r
-stops_reading left left' first before now (fault.TooLong limit) l r = absurd r
-stops_reading left left' first before now fault.BadWords l r = r
-stops_reading left left' first before now (fault.BadSettings at) l r = r
-stops_reading left left' first before now (fault.FewerParts asked kept) l r = r
-stops_reading left left' first before now (fault.Malformed file at) l r = r
-stops_reading left left' first before now (fault.Worn kept) l r = r
-stops_reading left left' first before now fault.WriteFault l r = r
+pub stops_reading : (left mid left' : Option (List ℕ)) (bytes : List ℕ) (first before now : ℕ) (f : Fault) → Consumes left mid bytes → length bytes ≤ script_limit → first ≤ before → FailsRead mid left' (script_limit + 1 - length bytes) before now f → StopsReading left left' first now f
+stops_reading left mid left' bytes first before now fault.NoMemory t few l r = record { bytes = bytes ++ r.bytes; taken = Consumes-trans left mid left' bytes r.bytes t r.taken; in_limit = omega (arith, few, r.in_limit, length-append bytes r.bytes) }
+stops_reading left mid left' bytes first before now fault.ReadFault t few l r = (rose_since first before now l r.0, record { bytes = bytes; taken = Consumes-kept left mid left' bytes t r.1; in_limit = few })
+stops_reading left mid left' bytes first before now (fault.Damaged file at kept found) t few l r = r
+stops_reading left mid left' bytes first before now (fault.Missing file) t few l r = r
+stops_reading left mid left' bytes first before now (fault.Gap part applied low high) t few l r = r
+stops_reading left mid left' bytes first before now (fault.BadLine line why) t few l r = r
+stops_reading left mid left' bytes first before now (fault.TooLong limit) t few l r = absurd r
+stops_reading left mid left' bytes first before now fault.BadWords t few l r = r
+stops_reading left mid left' bytes first before now (fault.BadSettings at) t few l r = r
+stops_reading left mid left' bytes first before now (fault.FewerParts asked kept) t few l r = r
+stops_reading left mid left' bytes first before now (fault.Malformed file at) t few l r = r
+stops_reading left mid left' bytes first before now (fault.Worn kept) t few l r = r
+stops_reading left mid left' bytes first before now fault.WriteFault t few l r = r
+
+-- where nothing was taken, and where all was read, no more than the limit was taken
+pub takes_none : (left left' : Option (List ℕ)) (most : ℕ) → Keeps left left' → TakesSome left left' most
+takes_none left left' most k = record { bytes = []; taken = Consumes-kept left left left' [] (Consumes-nil left) k; in_limit = omega arith }
+
+pub takes_all : (left left' : Option (List ℕ)) (bytes : List ℕ) → ReadsAll left left' bytes → TakesSome left left' (script_limit + 1)
+takes_all left left' bytes r = record { bytes = bytes; taken = r.taken; in_limit = omega (arith, r.in_limit) }
 
 -- one piece more was written
 pub split_on : (bytes front rest behind : List ℕ) (n : ℕ) → bytes ≡ front ++ rest → behind ≡ drop n rest → bytes ≡ (front ++ take n rest) ++ behind

@@ -1,4 +1,5 @@
 pub mod Words
+pub mod Placed
 pub mod Answers
 pub mod Runs
 pub mod Sessions

@@ -1,42 +1,82 @@
 -- What a run reads, writes and answers.
-use Rattle.std.specs.Prelude.{◌≡◌, ◌≤◌, ℕ, ◌+◌, List, [], ◌∷◌, ◌++◌, length, take, map, ◌||◌, ◌==◌, Option, Result, Ok, Err, ◌⊎◌, if◌then◌else◌}
-use Rattle.std.specs.List.{count_by, fold}
+use Rattle.std.specs.Prelude.{◌≡◌, ◌<◌, ◌≤◌, ℕ, zero, suc, ◌+◌, ⊤, List, [], ◌∷◌, ◌++◌, length, take, map, codes, ◌||◌, ◌==◌, Option, Result, Ok, Err, ◌⊎◌, if◌then◌else◌}
+use Rattle.std.specs.List.{count_by, filter, flat_map, fold}
 use Rattle.std.specs.Io.KnownBytes.{Appends, Consumes, IsAtEnd, Keeps}
 use Rattle.mg_faults.specs.Causes.{Rose}
-use Rattle.mg_model.specs.declared.faults.Fault.{Fault}
-use Rattle.mg_model.specs.declared.faults.Fault.TheVariants as fault
-use Rattle.mg_model.specs.declared.faults.Why.{Why}
+use Rattle.mg_types.specs.declared.faults.Fault.{Fault}
+use Rattle.mg_types.specs.declared.faults.Fault.TheVariants as fault
+use Rattle.mg_types.specs.declared.faults.Why.{Why}
 use Rattle.mg_model.specs.declared.replies.Answer.{Answer}
 use Rattle.mg_model.specs.declared.replies.Reply.{Reply}
-use Rattle.mg_model.specs.History.{History, after_history}
-use Rattle.mg_model.specs.State.{new_state, length_of}
+use Rattle.mg_model.specs.State.{length_of}
 use Rattle.mg_script.specs.declared.script.Line.{Line}
 use Rattle.mg_script.specs.Script.{script_of}
-use Rattle.mg_script.specs.Transcript.{answer_line, end_line}
+use Rattle.mg_script.specs.Transcript.{answer_line, end_line, fault_message}
+use Rattle.mg_model.specs.Placed.{Opening, Placed, calls_in, state_in}
+use Rattle.mg_run.specs.Placed.{placed_of}
 use Rattle.mg_run.specs.Answers.{AllFit}
 
 -- the most bytes of a script
 abbrev pub script_limit : ℕ
 script_limit = 67108864
 
+-- what is seen of the streams at one moment: the bytes that the source has left and those that the sink was given, where
+-- they tell them, and how many calls of each failed
+pub record Seen : Type 0 where
+  pub left : Option (List ℕ)
+  pub read_faults : ℕ
+  pub written : Option (List ℕ)
+  pub write_faults : ℕ
+
 -- which of its client's calls a line is, counted from 1, where these lines came before it
 abbrev pub call_number : List Line → Line → ℕ
 call_number earlier line = count_by (λ other. other.client == line.client) earlier + 1
 
--- the lines of the answers, in order, where some lines came before
-abbrev pub answer_lines : List Line → List Line → List Answer → List ℕ
-answer_lines earlier [] answers = []
-answer_lines earlier (line ∷ lines) [] = []
-answer_lines earlier (line ∷ lines) (answer ∷ answers) =
-    answer_line line.client (call_number earlier line) line.part answer ++ answer_lines (earlier ++ line ∷ []) lines answers
+-- an answer with what its line begins with: the client, which of the client's calls it answers, and the partition
+pub record NumberedAnswer : Type 0 where
+  pub client : ℕ
+  pub number : ℕ
+  pub part : ℕ
+  pub answer : Answer
 
--- the end line of the one partition, after a history
-abbrev pub last_line : History → List ℕ
-last_line history = let state = after_history new_state history in end_line 0 (length history) (length_of state) state.epoch
+-- the answer to a line, where these lines came before it
+abbrev pub numbered_answer : List Line → Line → Answer → NumberedAnswer
+numbered_answer earlier line answer = record { client = line.client; number = call_number earlier line; part = line.part; answer = answer }
 
--- the transcript of a whole run
-abbrev pub transcript : List Line → List Answer → History → List ℕ
-transcript lines answers history = answer_lines [] lines answers ++ last_line history
+-- the answers to some lines, numbered, where some lines came before
+abbrev pub numbered : List Line → List Line → List Answer → List NumberedAnswer
+numbered earlier [] answers = []
+numbered earlier (line ∷ lines) [] = []
+numbered earlier (line ∷ lines) (answer ∷ answers) = numbered_answer earlier line answer ∷ numbered (earlier ++ line ∷ []) lines answers
+
+-- the line of an answer
+abbrev pub numbered_text : NumberedAnswer → List ℕ
+numbered_text it = answer_line it.client it.number it.part it.answer
+
+-- of numbered answers those to one client
+abbrev pub told_by : List NumberedAnswer → ℕ → List NumberedAnswer
+told_by answers client = filter (λ it. it.client == client) answers
+
+-- the lines of the answers, one by one
+abbrev pub call_texts : List Line → List Answer → List (List ℕ)
+call_texts lines answers = map numbered_text (numbered [] lines answers)
+
+-- the end line of a partition
+abbrev pub end_text : Opening → List Placed → ℕ → List ℕ
+end_text opening placed part = let state = state_in opening placed part in end_line part (calls_in placed part) (length_of state) state.epoch
+
+-- the end lines of the first partitions, in rising order, one by one
+abbrev pub end_texts : Opening → List Placed → ℕ → List (List ℕ)
+end_texts opening placed zero = []
+end_texts opening placed (suc part) = end_texts opening placed part ++ end_text opening placed part ∷ []
+
+-- the lines of a run one by one: those of the numbered answers, and then the end lines of the first partitions
+abbrev pub texts : Opening → List Placed → List NumberedAnswer → ℕ → List (List ℕ)
+texts opening placed answers ends = map numbered_text answers ++ end_texts opening placed ends
+
+-- texts, one behind the other
+abbrev pub joined : List (List ℕ) → List ℕ
+joined pieces = flat_map (λ piece. piece) pieces
 
 -- the status of a fault
 abbrev pub fault_status : Fault → ℕ
@@ -73,43 +113,47 @@ pub record ReadsAll (left left' : Option (List ℕ)) (bytes : List ℕ) : Type 0
   pub end : IsAtEnd left'
   pub in_limit : length bytes ≤ script_limit
 
--- The run came to its end: all calls were answered as the plain list answers, and the whole transcript was written.
-pub record Finishes (left left' written written' : Option (List ℕ)) (status : ℕ) : Type 0 where
+-- The run of so many partitions came to its end: the answers to all lines fit, all lines of the run were written, and no read or write failed.
+pub record Finishes (parts : ℕ) (opening : Opening) (before after : Seen) (status : ℕ) : Type 0 where
   pub bytes : List ℕ
   pub lines : List Line
   pub answers : List Answer
-  pub history : History
-  pub read : ReadsAll left left' bytes
-  pub script : script_of 1 bytes ≡ Ok lines
-  pub fit : AllFit new_state [] lines answers history
-  pub text : Appends written written' (transcript lines answers history)
+  pub read : ReadsAll before.left after.left bytes
+  pub script : script_of parts bytes ≡ Ok lines
+  pub fit : AllFit opening [] lines answers
+  pub text : Appends before.written after.written (joined (texts opening (placed_of lines answers) (numbered [] lines answers) parts))
   pub gravest : status ≡ answers_status answers
+  pub reads : after.read_faults ≡ before.read_faults
+  pub writes : after.write_faults ≡ before.write_faults
 
--- the text of the first calls of a script, with the end line where these are all
-abbrev pub text_of : List Line → ℕ → List Answer → History → List ℕ
-text_of lines made answers history = answer_lines [] (take made lines) answers ++ (if made == length lines then last_line history else [])
-
--- The run broke off: so many calls were answered as the plain list answers, and a front of their text was written.
-pub record BreaksOff (left left' written written' : Option (List ℕ)) : Type 0 where
+-- The run broke off in the last line that it came to: the lines before it were written, and of it a front. Of the calls the
+-- first ones were made; end lines come only once all are. Of the last line so many bytes at least are left.
+pub record BreaksOff (parts : ℕ) (opening : Opening) (before after : Seen) (least : ℕ) : Type 0 where
   pub bytes : List ℕ
   pub lines : List Line
   pub made : ℕ
+  pub ends : ℕ
   pub answers : List Answer
-  pub history : History
+  pub earlier : List (List ℕ)
+  pub last : List ℕ
   pub front : List ℕ
   pub rest : List ℕ
-  pub read : ReadsAll left left' bytes
-  pub script : script_of 1 bytes ≡ Ok lines
+  pub read : ReadsAll before.left after.left bytes
+  pub script : script_of parts bytes ≡ Ok lines
   pub calls : made ≤ length lines
-  pub fit : AllFit new_state [] (take made lines) answers history
-  pub split : text_of lines made answers history ≡ front ++ rest
-  pub text : Appends written written' front
+  pub order : made < length lines → ends ≡ 0
+  pub few : ends ≤ parts
+  pub fit : AllFit opening [] (take made lines) answers
+  pub split : texts opening (placed_of (take made lines) answers) (numbered [] (take made lines) answers) ends ≡ earlier ++ last ∷ []
+  pub cut : last ≡ front ++ rest
+  pub left : least ≤ length rest
+  pub text : Appends before.written after.written (joined earlier ++ front)
 
 -- The whole input was read, and this line is the first that is no call.
-pub record IsBadLine (left left' : Option (List ℕ)) (line : ℕ) (why : Why) : Type 0 where
+pub record IsBadLine (parts : ℕ) (left left' : Option (List ℕ)) (line : ℕ) (why : Why) : Type 0 where
   pub bytes : List ℕ
   pub read : ReadsAll left left' bytes
-  pub script : script_of 1 bytes ≡ Err (line, why)
+  pub script : script_of parts bytes ≡ Err (line, why)
 
 -- one byte more than the limit was taken
 pub record IsTooLong (left left' : Option (List ℕ)) (limit : ℕ) : Type 0 where
@@ -118,27 +162,33 @@ pub record IsTooLong (left left' : Option (List ℕ)) (limit : ℕ) : Type 0 whe
   pub taken : Consumes left left' bytes
   pub one_more : length bytes ≡ script_limit + 1
 
--- why a run over good words stopped, and what it had written
-abbrev pub Stops : Option (List ℕ) → Option (List ℕ) → ℕ → ℕ → Option (List ℕ) → Option (List ℕ) → ℕ → ℕ → Fault → Type 0
-Stops left left' in_faults in_faults' written written' out_faults out_faults' fault.NoMemory = Keeps written written' ⊎ BreaksOff left left' written written'
-Stops left left' in_faults in_faults' written written' out_faults out_faults' fault.ReadFault = Rose in_faults in_faults' × Keeps written written'
-Stops left left' in_faults in_faults' written written' out_faults out_faults' fault.WriteFault = Rose out_faults out_faults' × BreaksOff left left' written written'
-Stops left left' in_faults in_faults' written written' out_faults out_faults' (fault.BadLine line why) = IsBadLine left left' line why × Keeps written written'
-Stops left left' in_faults in_faults' written written' out_faults out_faults' (fault.TooLong limit) = IsTooLong left left' limit × Keeps written written'
-Stops left left' in_faults in_faults' written written' out_faults out_faults' other = ⊥
+-- bytes of the input were taken, at most so many
+pub record TakesSome (left left' : Option (List ℕ)) (most : ℕ) : Type 0 where
+  pub bytes : List ℕ
+  pub taken : Consumes left left' bytes
+  pub in_limit : length bytes ≤ most
 
 -- why reading stopped before the end of the input
 abbrev pub StopsReading : Option (List ℕ) → Option (List ℕ) → ℕ → ℕ → Fault → Type 0
-StopsReading left left' faults faults' fault.NoMemory = Unit {0}
-StopsReading left left' faults faults' fault.ReadFault = Rose faults faults'
+StopsReading left left' faults faults' fault.NoMemory = TakesSome left left' (script_limit + 1)
+StopsReading left left' faults faults' fault.ReadFault = Rose faults faults' × TakesSome left left' script_limit
 StopsReading left left' faults faults' (fault.TooLong limit) = IsTooLong left left' limit
 StopsReading left left' faults faults' other = ⊥
 
--- why one read gave nothing
-abbrev pub FailsRead : ℕ → ℕ → Fault → Type 0
-FailsRead faults faults' fault.NoMemory = Unit {0}
-FailsRead faults faults' fault.ReadFault = Rose faults faults'
-FailsRead faults faults' other = ⊥
+-- why a run of so many partitions over good words stopped, and what it had read and written
+abbrev pub Stops : ℕ → Opening → Seen → Seen → Fault → Type 0
+Stops parts opening before after fault.NoMemory = (TakesSome before.left after.left (script_limit + 1) × Keeps before.written after.written) ⊎ BreaksOff parts opening before after 0
+Stops parts opening before after fault.ReadFault = (Rose before.read_faults after.read_faults × TakesSome before.left after.left script_limit) × Keeps before.written after.written
+Stops parts opening before after fault.WriteFault = Rose before.write_faults after.write_faults × BreaksOff parts opening before after 1
+Stops parts opening before after (fault.BadLine line why) = IsBadLine parts before.left after.left line why × Keeps before.written after.written
+Stops parts opening before after (fault.TooLong limit) = IsTooLong before.left after.left limit × Keeps before.written after.written
+Stops parts opening before after other = ⊥
+
+-- why one read gave nothing, with so many bytes that it could take; of the input nothing was taken where it failed
+abbrev pub FailsRead : Option (List ℕ) → Option (List ℕ) → ℕ → ℕ → ℕ → Fault → Type 0
+FailsRead left left' room faults faults' fault.NoMemory = TakesSome left left' room
+FailsRead left left' room faults faults' fault.ReadFault = Rose faults faults' × Keeps left left'
+FailsRead left left' room faults faults' other = ⊥
 
 -- one piece of the input was taken, to which the bytes read so far grew; an empty piece means the end
 pub record TakesPiece (left left' : Option (List ℕ)) (bytes bytes' : List ℕ) (count : ℕ) : Type 0 where
@@ -149,15 +199,20 @@ pub record TakesPiece (left left' : Option (List ℕ)) (bytes bytes' : List ℕ)
   pub end : count ≡ 0 → IsAtEnd left'
   pub limit : length bytes' ≤ script_limit + 1
 
--- a front of some bytes was written
-pub record WritesFront (written written' : Option (List ℕ)) (bytes : List ℕ) : Type 0 where
+-- a front of some bytes was written, and so many at least are left
+pub record WritesFront (written written' : Option (List ℕ)) (bytes : List ℕ) (least : ℕ) : Type 0 where
   pub front : List ℕ
   pub rest : List ℕ
   pub split : bytes ≡ front ++ rest
+  pub left : least ≤ length rest
   pub text : Appends written written' front
 
 -- why writing some bytes stopped, and what was written of them
 abbrev pub StopsWriting : Option (List ℕ) → Option (List ℕ) → ℕ → ℕ → List ℕ → Fault → Type 0
-StopsWriting written written' faults faults' bytes fault.NoMemory = WritesFront written written' bytes
-StopsWriting written written' faults faults' bytes fault.WriteFault = Rose faults faults' × WritesFront written written' bytes
+StopsWriting written written' faults faults' bytes fault.NoMemory = WritesFront written written' bytes 0
+StopsWriting written written' faults faults' bytes fault.WriteFault = Rose faults faults' × WritesFront written written' bytes 1
 StopsWriting written written' faults faults' bytes other = ⊥
+
+-- what the program says of a fault on standard error
+abbrev pub complaint : Fault → List ℕ
+complaint f = codes "magma: " ++ fault_message f ++ codes "\n"

@@ -1,6 +1,6 @@
 //! All calls of a script, one after the other.
 
-ghost use Rattle.std.specs.Prelude.{◌≤◌, [], length, MatchResult};
+ghost use Rattle.std.specs.Prelude.{◌≡◌, ◌≤◌, [], length, MatchResult, OnOk};
 ghost use Rattle.std.specs.List.{All};
 ghost use Rattle.mg_script.specs.Script.{IsLine};
 ghost use Rattle.mg_run.specs.Runs.{script_limit};
@@ -18,6 +18,7 @@ pub fn serve_all<K: Sink>(alloc: Global, lines: &[Line], out: &mut K) -> Result<
     requires form { All (IsLine 1) lines.now }
     requires few { length lines.now ≤ script_limit }
     ensures later { K.faults out.old ≤ K.faults out.new }
+    ensures good { OnOk result (K.faults out.new ≡ K.faults out.old) }
     ensures served { MatchResult result (λ session. Answered session lines.now (K.written out.old) (K.written out.new))
         (λ fault. StopsCalls lines.now (K.written out.old) (K.written out.new) (K.faults out.old) (K.faults out.new) fault) }
 {
@@ -32,7 +33,7 @@ pub fn serve_all<K: Sink>(alloc: Global, lines: &[Line], out: &mut K) -> Result<
 }
 
 fn new_session(alloc: Global) -> Session
-    ensures { StandsAt result [] [] [] }
+    ensures { StandsAt result [] [] }
 {
     Session {
         plain: Plain::new(alloc),

@@ -1,12 +1,13 @@
 //! The calls of a script, answered one after the other by one plain machine.
 
-ghost use Rattle.std.specs.Prelude.{◌≡◌, ◌≤◌, ◌<◌, ℕ, List, length, MatchResult, IsOkUnless, slice_index, ◌^◌};
+ghost use Rattle.std.specs.Prelude.{◌≡◌, ◌≤◌, ◌<◌, ℕ, List, length, MatchResult, OnOk, IsOkUnless, slice_index, ◌^◌};
 ghost use Rattle.mg_model.specs.declared.replies.Answer.{Answer};
 ghost use Rattle.mg_model.specs.History.{History, after_history};
 ghost use Rattle.mg_model.specs.State.{HasRoom, length_of, new_state};
 ghost use Rattle.mg_script.specs.declared.script.Line.{Line};
 ghost use Rattle.mg_script.specs.Script.{IsLine, IsSpoken};
-ghost use Rattle.mg_run.specs.Answers.{Enters, is_read};
+ghost use Rattle.mg_model.specs.Fits.{is_read};
+ghost use Rattle.mg_run.specs.Answers.{Enters};
 ghost use Rattle.mg_run.specs.Runs.{fault_status, graver, result_status, StopsWriting};
 ghost use Rattle.mg_script.specs.Transcript.{answer_line};
 ghost use Rattle.std.specs.Io.KnownBytes.{Appends};
@@ -122,6 +123,7 @@ fn write_answer<K: Sink>(
 ) -> Result<(), Fault>
     requires { IsOkUnless answer.now.result Fault.NoMemory }
     ensures later { K.faults out.old ≤ K.faults out.new }
+    ensures good { OnOk result (K.faults out.new ≡ K.faults out.old) }
     ensures wrote { MatchResult result (λ _. Appends (K.written out.old) (K.written out.new) (answer_line line.now.client number line.now.part answer.now))
         (λ fault. StopsWriting (K.written out.old) (K.written out.new) (K.faults out.old) (K.faults out.new) (answer_line line.now.client number line.now.part answer.now) fault) }
 {
@@ -141,8 +143,8 @@ impl Session {
         requires few { self.old.places < 2 ^ 27 }
         requires short { length_of self.old.plain < 2 ^ 27 }
         requires counts { (client : ℕ) → client < 16 → slice_index self.old.counts client < 2 ^ 27 }
-        ensures answered { (lines : List Line) (answers : List Answer) (history : History) → StandsAt self.old lines answers history
-            → NextAnswer self.new lines answers history line.now result.0 result.1 }
+        ensures answered { (lines : List Line) (answers : List Answer) → StandsAt self.old lines answers
+            → NextAnswer self.new lines answers line.now result.0 result.1 }
         ensures fault { IsOkUnless result.1.result Fault.NoMemory }
     {
         let client = usize::from(line.client);
@@ -160,9 +162,10 @@ impl Session {
         requires short { length_of self.old.plain < 2 ^ 27 }
         requires counts { (client : ℕ) → client < 16 → slice_index self.old.counts client < 2 ^ 27 }
         ensures later { K.faults out.old ≤ K.faults out.new }
-        ensures served { (lines : List Line) (answers : List Answer) (history : History) → StandsAt self.old lines answers history
+        ensures good { OnOk result (K.faults out.new ≡ K.faults out.old) }
+        ensures served { (lines : List Line) (answers : List Answer) → StandsAt self.old lines answers
             → MatchResult result (λ _. AnsweredNext self.new lines answers line.now (K.written out.old) (K.written out.new))
-            (λ fault. StopsCall lines history line.now (K.written out.old) (K.written out.new) (K.faults out.old) (K.faults out.new) fault) }
+            (λ fault. StopsCall lines answers line.now (K.written out.old) (K.written out.new) (K.faults out.old) (K.faults out.new) fault) }
     {
         let (number, answer) = self.answer(alloc, line);
         write_answer(alloc, number, line, &answer, out)

@@ -1,9 +1,10 @@
 //! One thread, from the bytes in to the bytes out.
 
-ghost use Rattle.std.specs.Prelude.{◌≡◌, ◌≤◌, true, false, ◌↔◌, IfSome, MatchOption, MatchResult};
+ghost use Rattle.std.specs.Prelude.{◌≡◌, ◌≤◌, true, false, ◌↔◌, IfSome, MatchOption, MatchResult, OnOk};
 ghost use Rattle.std.specs.Io.KnownBytes.{Appends};
-ghost use Rattle.mg_run.specs.Runs.{fault_status, Finishes, Stops, StopsWriting};
-ghost use Rattle.mg_run.specs.Sessions.{end_text};
+ghost use Rattle.mg_model.specs.Placed.{empty_opening};
+ghost use Rattle.mg_run.specs.Runs.{fault_status, Finishes, Seen, Stops, StopsWriting};
+ghost use Rattle.mg_run.specs.Sessions.{session_end};
 ghost use Rattle.mg_run.specs.Words.{are_alone_words};
 
 use crate::serving::serve_all;
@@ -39,35 +40,37 @@ pub fn alone<S: Source, K: Sink>(alloc: Global, words: &[String], input: &mut S,
     ensures status { IfSome result.fault (λ fault. result.status ≡ fault_status fault) }
 
     // The run finished, or stopped for a fault with its cause.
-    ensures run { are_alone_words words.now ≡ true → MatchOption result.fault
-        (Finishes (S.left input.old) (S.left input.new) (K.written out.old) (K.written out.new) result.status)
-        (λ fault. Stops (S.left input.old) (S.left input.new) (S.faults input.old) (S.faults input.new)
-        (K.written out.old) (K.written out.new) (K.faults out.old) (K.faults out.new) fault) }
+    ensures run { let before : Seen = record { left = S.left input.old; read_faults = S.faults input.old; written = K.written out.old; write_faults = K.faults out.old } in
+        let after : Seen = record { left = S.left input.new; read_faults = S.faults input.new; written = K.written out.new; write_faults = K.faults out.new } in
+        are_alone_words words.now ≡ true → MatchOption result.fault (Finishes 1 empty_opening before after result.status) (λ fault. Stops 1 empty_opening before after fault) }
 {
     if !ask_for_alone(words) {
-        return Ran {
-            status: status_of(&Fault::BadWords),
-            fault: Some(Fault::BadWords),
-        };
+        return refused(Fault::BadWords);
     }
     match run(alloc, input, out) {
         Ok(status) => Ran {
             status,
             fault: None,
         },
-        Err(fault) => Ran {
-            status: status_of(&fault),
-            fault: Some(fault),
-        },
+        Err(fault) => refused(fault),
+    }
+}
+
+/// How a run ends that stops for this fault.
+pub fn refused(fault: Fault) -> Ran
+    ensures { result ≡ record { status = fault_status fault; fault = Some fault } }
+{
+    Ran {
+        status: status_of(&fault),
+        fault: Some(fault),
     }
 }
 
 /// A run over good words: its status, or why it stopped.
 fn run<S: Source, K: Sink>(alloc: Global, input: &mut S, out: &mut K) -> Result<u8, Fault>
-    ensures { MatchResult result
-        (λ status. Finishes (S.left input.old) (S.left input.new) (K.written out.old) (K.written out.new) status)
-        (λ fault. Stops (S.left input.old) (S.left input.new) (S.faults input.old) (S.faults input.new)
-        (K.written out.old) (K.written out.new) (K.faults out.old) (K.faults out.new) fault) }
+    ensures { let before : Seen = record { left = S.left input.old; read_faults = S.faults input.old; written = K.written out.old; write_faults = K.faults out.old } in
+        let after : Seen = record { left = S.left input.new; read_faults = S.faults input.new; written = K.written out.new; write_faults = K.faults out.new } in
+        MatchResult result (λ status. Finishes 1 empty_opening before after status) (λ fault. Stops 1 empty_opening before after fault) }
 {
     let bytes = match read_all(alloc, input) {
         Ok(bytes) => bytes,
@@ -90,8 +93,9 @@ fn run<S: Source, K: Sink>(alloc: Global, input: &mut S, out: &mut K) -> Result<
 /// Writes the end line of the one partition.
 fn write_end<K: Sink>(alloc: Global, session: &Session, out: &mut K) -> Result<(), Fault>
     ensures later { K.faults out.old ≤ K.faults out.new }
-    ensures wrote { MatchResult result (λ _. Appends (K.written out.old) (K.written out.new) (end_text session.now))
-        (λ fault. StopsWriting (K.written out.old) (K.written out.new) (K.faults out.old) (K.faults out.new) (end_text session.now) fault) }
+    ensures good { OnOk result (K.faults out.new ≡ K.faults out.old) }
+    ensures wrote { MatchResult result (λ _. Appends (K.written out.old) (K.written out.new) (session_end session.now))
+        (λ fault. StopsWriting (K.written out.old) (K.written out.new) (K.faults out.old) (K.faults out.new) (session_end session.now) fault) }
 {
     let mut text = Vec::new(alloc);
     match put_end(

@@ -1,6 +1,6 @@
 //! The whole input, and whole pieces of output.
 
-ghost use Rattle.std.specs.Prelude.{◌≡◌, ◌+◌, ◌≤◌, ◌<◌, length, IfOk, MatchResult};
+ghost use Rattle.std.specs.Prelude.{◌≡◌, ◌+◌, ◌-◌, ◌≤◌, ◌<◌, length, IfOk, MatchResult, OnOk};
 ghost use Rattle.std.specs.Io.KnownBytes.{Appends};
 ghost use Rattle.mg_run.specs.Runs.{FailsRead, ReadsAll, script_limit, StopsReading, StopsWriting, TakesPiece};
 
@@ -16,8 +16,9 @@ const PIECE: usize = 16_384;
 
 /// All bytes of the input, up to its end.
 ///
-/// `TooLong` comes once one byte more than the limit was taken, and `ReadFault` where a read failed.
+/// `TooLong` comes once one byte more than the limit was taken, and `ReadFault` where a read failed before that.
 pub fn read_all<S: Source>(alloc: Global, input: &mut S) -> Result<Vec<u8>, Fault>
+    ensures good { OnOk result (S.faults input.new ≡ S.faults input.old) }
     ensures read { MatchResult result (λ bytes. ReadsAll (S.left input.old) (S.left input.new) bytes.items)
         (λ fault. StopsReading (S.left input.old) (S.left input.new) (S.faults input.old) (S.faults input.new) fault) }
 {
@@ -44,8 +45,9 @@ fn read_piece<S: Source>(
     requires room { 1 ≤ length buffer.old }
     requires limit { length bytes.old.items ≤ script_limit }
     ensures later { S.faults input.old ≤ S.faults input.new }
+    ensures good { OnOk result (S.faults input.new ≡ S.faults input.old) }
     ensures taken { MatchResult result (λ count. TakesPiece (S.left input.old) (S.left input.new) bytes.old.items bytes.new.items count)
-        (λ fault. FailsRead (S.faults input.old) (S.faults input.new) fault) }
+        (λ fault. FailsRead (S.left input.old) (S.left input.new) (script_limit + 1 - length bytes.old.items) (S.faults input.old) (S.faults input.new) fault) }
 {
     let room = (SCRIPT_LIMIT + 1 - bytes.len()).min(buffer.len());
     let piece = &mut buffer[..room];
@@ -61,6 +63,7 @@ fn read_piece<S: Source>(
 /// Writes all of some bytes, in as many calls as it takes. After an error a front of them was written.
 pub fn write_all<K: Sink>(out: &mut K, bytes: &[u8]) -> Result<(), Fault>
     ensures later { K.faults out.old ≤ K.faults out.new }
+    ensures good { OnOk result (K.faults out.new ≡ K.faults out.old) }
     ensures wrote { MatchResult result (λ _. Appends (K.written out.old) (K.written out.new) bytes.now)
         (λ fault. StopsWriting (K.written out.old) (K.written out.new) (K.faults out.old) (K.faults out.new) bytes.now fault) }
 {

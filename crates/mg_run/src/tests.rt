@@ -1,6 +1,6 @@
 //! Whole runs, from the bytes in to the bytes out.
 
-use crate::{Ran, alone};
+use crate::{Ran, alone, end_program};
 use mg_io::{MemSink, MemSource};
 use mg_model::{Fault, Why};
 use std::alloc::{AllocError, Global};
@@ -193,6 +193,67 @@ fn a_read_that_fails_is_named_and_nothing_is_written(rt: HostRuntime) -> Result<
     assert_eq!(rt; outcome.ran.fault, Some(Fault::ReadFault));
     assert_eq!(rt; outcome.ran.status, 3);
     assert!(rt; outcome.text.is_empty());
+    Ok(())
+}
+
+/// A set whose line has so many bytes, 11 of them beside the document.
+fn set_of_length(alloc: Global, length: usize) -> Result<Vec<u8>, AllocError> {
+    let mut script = Vec::from_slice(alloc, b"0 set 0 a ")?;
+    for _ in 11..length {
+        script.push(b'x')?;
+    }
+    script.push(b'\n')?;
+    Ok(script)
+}
+
+#[test]
+fn reading_asks_for_16384_bytes_at_once(rt: HostRuntime) -> Result<(), Fail> {
+    // The length of the input, the read that fails, and whether it is made.
+    let rows = [
+        (16_384, 2, true),
+        (16_384, 3, false),
+        (16_385, 3, true),
+        (16_385, 4, false),
+    ];
+    for (length, failing, fails) in rows {
+        let script = set_of_length(rt.alloc(), length)?;
+        let failing_reads = vec![in rt.alloc(); failing]?;
+        let outcome = run_with(rt.alloc(), script, failing_reads, Vec::new(rt.alloc()))?;
+        assert_eq!(rt;
+            outcome.ran.fault == Some(Fault::ReadFault),
+            fails,
+            "{length} {failing}"
+        );
+        assert_eq!(rt; outcome.text.is_empty(), fails, "{length} {failing}");
+    }
+    Ok(())
+}
+
+#[test]
+fn a_fault_is_said_and_gives_the_status(rt: HostRuntime) -> Result<(), Fail> {
+    let rows = [
+        (0, None, ""),
+        (
+            2,
+            Some(Fault::TooLong { limit: 67_108_864 }),
+            "magma: input over 67108864 bytes\n",
+        ),
+    ];
+    for (status, fault, text) in rows {
+        let ran = Ran { status, fault };
+        let mut error = MemSink::new(rt.alloc(), Vec::new(rt.alloc()));
+        let ending = end_program(rt.alloc(), &ran, &mut error);
+        assert_eq!(rt; error.bytes(), text.as_bytes());
+        assert!(rt; ending.said.is_ok());
+    }
+    let ran = Ran {
+        status: 1,
+        fault: Some(Fault::BadWords),
+    };
+    let mut error = MemSink::new(rt.alloc(), vec![in rt.alloc(); 1u64]?);
+    let ending = end_program(rt.alloc(), &ran, &mut error);
+    assert_eq!(rt; ending.said, Err(Fault::WriteFault));
+    assert!(rt; error.bytes().is_empty());
     Ok(())
 }
 

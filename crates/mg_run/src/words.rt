@@ -2,7 +2,6 @@
 
 ghost use Rattle.std.specs.Prelude.{◌≡◌};
 ghost use Rattle.mg_run.specs.Words.{are_alone_words, is_folder};
-ghost use Rattle.mg_run.specs.Runs.{Finishes, Stops};
 
 /// Whether a word can be a folder's name.
 fn is_folder_name(name: &str) -> bool

@@ -8,6 +8,7 @@ invariant-loop-rest g l = record {
   split : l.bytes ≡ front ++ l.rest;
   text : Appends (g.K.Sink.written l.fn.out) (g.K.Sink.written l.out) front;
   later : g.K.Sink.faults l.fn.out ≤ g.K.Sink.faults l.out;
+  same : g.K.Sink.faults l.out ≡ g.K.Sink.faults l.fn.out;
 }
 
 abbrev pub decreases-loop-rest : goal.decreases-loop-rest
