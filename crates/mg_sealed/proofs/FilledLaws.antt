@@ -45,7 +45,7 @@ alone-fits block_of item = record { some = push-some [] item; small = inr refl }
 pub alone-filled : {T : Type 0} (block_of : List T → List ℕ) (item : T) → AreFilled block_of ((item ∷ []) ∷ [])
 alone-filled block_of item = (alone-fits block_of item, tt, tt)
 
-closed_still : {T : Type 0} (block_of : List T → List ℕ) (block : List T) (blocks more : List (List T)) → blocks ≢ []
+pub closed_still : {T : Type 0} (block_of : List T → List ℕ) (block : List T) (blocks more : List (List T)) → blocks ≢ []
     → IsClosed block_of block blocks → IsClosed block_of block (blocks ++ more)
 closed_still block_of block [] more some closed = absurd (some refl)
 closed_still block_of block ([] ∷ blocks) more some closed = tt

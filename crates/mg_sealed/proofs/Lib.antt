@@ -1,7 +1,7 @@
 pub mod AnswerLaws
 pub mod FilledLaws
 pub mod FillingLaws
-pub mod FootLaws
+pub mod FooterLaws
 pub mod ListLaws
 pub mod NumberLaws
 pub mod ReadingLaws

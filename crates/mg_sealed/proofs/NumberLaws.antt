@@ -1,8 +1,8 @@
 -- Numbers that are judged from left to right.
 use Rattle.std.proofs.Common.{◌≡◌, ℕ, ◌<◌, ◌≤◌, ◌^◌, List, [], ◌∷◌, ◌++◌, length, ap, arith}
 use Rattle.std.proofs.lemmas.List.{length-append}
-use Rattle.mg_model.specs.declared.faults.Fault.{Fault}
-use Rattle.mg_model.specs.declared.faults.FileId.{FileId}
+use Rattle.mg_types.specs.declared.faults.Fault.{Fault}
+use Rattle.mg_types.specs.declared.names.FileId.{FileId}
 use Rattle.mg_sealed.specs.Numbers.{AreKept, IsTooGreat}
 
 -- one more number that is kept

@@ -1,14 +1,14 @@
 -- A piece of a file that is enough of it is judged as what is left of the file.
-use Rattle.std.proofs.Common.{◌≡◌, ℕ, ◌+◌, ◌<◌, ◌≤◌, ◌⊎◌, List, ◌++◌, length, take, drop, refl, sym, ap, ◌∙◌, arith, inl, inr, ltb, eqb, true, false, Bool, cond, Result, Ok, Err, MatchResult}
+use Rattle.std.proofs.Common.{◌≡◌, ℕ, ◌+◌, ◌<◌, ◌≤◌, ◌⊎◌, List, ◌++◌, length, take, drop, refl, sym, ap, ◌∙◌, append_assoc, arith, inl, inr, ltb, eqb, true, false, Bool, cond, Result, Ok, Err, MatchResult}
 use Rattle.std.proofs.lemmas.List.{take-append-le, drop-append-le, take-append-drop, length-append, length-drop, take_all, length-take-le}
 use Rattle.std.proofs.lemmas.Bool.{lt-ltb, le-ltb, eq-eqb, ne_eqb, cases_lt, cases_eq}
 use Rattle.mg_frame.specs.BigEndian.{big_endian_value}
-use Rattle.mg_frame.specs.Frame.{digest, said_length, said_number, said_digest, true_digest, compared, judged, taken}
+use Rattle.mg_frame.specs.Frame.{StandsAt, frame, digest, said_length, said_number, said_digest, true_digest, compared, judged, taken}
 use Rattle.mg_frame.specs.declared.frame.Taken.TheVariants.{Whole, End, Short, Number, Torn}
 use Rattle.mg_frame.proofs.FrameLaws.{slice_body}
-use Rattle.mg_model.specs.declared.faults.Fault.{Fault}
-use Rattle.mg_model.specs.declared.faults.Fault.TheVariants.{Damaged}
-use Rattle.mg_model.specs.declared.faults.FileId.{FileId}
+use Rattle.mg_types.specs.declared.faults.Fault.{Fault}
+use Rattle.mg_types.specs.declared.faults.Fault.TheVariants.{Damaged}
+use Rattle.mg_types.specs.declared.names.FileId.{FileId}
 use Rattle.mg_sealed.specs.Answers.{Answers}
 use Rattle.mg_sealed.specs.Reading.{body_or_damage, frame_body, needed, IsEnough}
 
@@ -252,4 +252,16 @@ second_enough left piece again first room is sized within least more fits is' =
     record {
       front = is' ∙ ap (λ k. take k left) (sym len');
       enough = inl (omega arith);
+    }
+
+-- the frame that a front of what is left of a file begins with stands in the file
+pub stands_in : (bytes piece : List ℕ) (at number : ℕ) (body : List ℕ) → IsEnough (drop at bytes) piece → StandsAt piece 0 (number, body) → StandsAt bytes at (number, body)
+stands_in bytes piece at number body is stands =
+    let left = drop at bytes in
+    let behind = drop (length piece) left in
+    let parts : piece ++ behind ≡ left = ap (λ xs. xs ++ behind) is.front ∙ take-append-drop (length piece) left in
+    record {
+      fits = stands.fits;
+      rest = stands.rest ++ behind;
+      spelled = sym parts ∙ ap (λ xs. xs ++ behind) stands.spelled ∙ append_assoc (frame number body) stands.rest behind;
     }

@@ -7,7 +7,7 @@ use Rattle.mg_frame.proofs.BigEndianLaws.{length-big_endian}
 use Rattle.mg_frame.specs.Frame.{digest, covered, frame}
 use Rattle.mg_frame.specs.Frames.{frames, numbered_frames}
 use Rattle.mg_frame.proofs.FrameLaws.{frame_covered, covered_parts, TakesWritten-taken, slice_body}
-use Rattle.mg_model.specs.declared.faults.Fault.{Fault}
+use Rattle.mg_types.specs.declared.faults.Fault.{Fault}
 use Rattle.mg_sealed.specs.Laws.{WrittenFrameIsRead}
 use Rattle.mg_sealed.specs.Reading.{body_or_damage, frame_body}
 use Rattle.mg_sealed.proofs.WritingLaws.{frames_from-append}

@@ -2,8 +2,8 @@
 use Rattle.std.specs.Prelude.{◌≡◌, ◌⊎◌, Result, Ok, Err}
 use Rattle.mg_disk.specs.declared.errors.DiskError.{DiskError}
 use Rattle.mg_disk.specs.declared.errors.DiskError.TheVariants as disk
-use Rattle.mg_model.specs.declared.faults.Fault.{Fault}
-use Rattle.mg_model.specs.declared.faults.Fault.TheVariants.{NoMemory, ReadFault, WriteFault}
+use Rattle.mg_types.specs.declared.faults.Fault.{Fault}
+use Rattle.mg_types.specs.declared.faults.Fault.TheVariants.{NoMemory, ReadFault, WriteFault}
 
 -- what a call answers where a read gave up so
 abbrev pub read_fault : DiskError → Fault

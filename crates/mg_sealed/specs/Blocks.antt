@@ -1,8 +1,8 @@
 -- What is read of a block of a sealed file, whose place and length an index says.
 use Rattle.std.specs.Prelude.{◌≡◌, ℕ, ◌+◌, ◌⊎◌, ◌==◌, List, length, if◌then◌else◌, Result, Ok, Err}
-use Rattle.mg_model.specs.declared.faults.Fault.{Fault}
-use Rattle.mg_model.specs.declared.faults.Fault.TheVariants.{Malformed}
-use Rattle.mg_model.specs.declared.faults.FileId.{FileId}
+use Rattle.mg_types.specs.declared.faults.Fault.{Fault}
+use Rattle.mg_types.specs.declared.faults.Fault.TheVariants.{Malformed}
+use Rattle.mg_types.specs.declared.names.FileId.{FileId}
 use Rattle.mg_sealed.specs.Reading.{frame_body, IsDamageAt}
 
 -- a block's body that was read at this place, or what is wrong there: the whole frame has the length that the index says

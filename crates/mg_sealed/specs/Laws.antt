@@ -1,7 +1,7 @@
 -- What is written is read again.
 use Rattle.std.specs.Prelude.{◌≡◌, ℕ, ◌<◌, ◌^◌, List, ◌∷◌, ◌++◌, length, Ok}
 use Rattle.mg_frame.specs.Frames.{numbered_frames}
-use Rattle.mg_model.specs.declared.faults.FileId.{FileId}
+use Rattle.mg_types.specs.declared.names.FileId.{FileId}
 use Rattle.mg_sealed.specs.Reading.{frame_body}
 
 -- each frame of a file of numbered frames is read at its place, and is damaged nowhere

@@ -1,7 +1,7 @@
 pub mod Answers
 pub mod Blocks
 pub mod Filling
-pub mod Foot
+pub mod Footer
 pub mod Laws
 pub mod Lists
 pub mod Numbers

@@ -3,9 +3,9 @@ use Rattle.std.specs.Prelude.{◌≡◌, ℕ, ◌+◌, ◌<◌, ◌≤◌, ◌�
 use Rattle.mg_frame.specs.Frame.{taken, said_length}
 use Rattle.mg_frame.specs.declared.frame.Taken.{Taken}
 use Rattle.mg_frame.specs.declared.frame.Taken.TheVariants.{Whole, End, Short, Number, Torn}
-use Rattle.mg_model.specs.declared.faults.Fault.{Fault}
-use Rattle.mg_model.specs.declared.faults.Fault.TheVariants.{Damaged}
-use Rattle.mg_model.specs.declared.faults.FileId.{FileId}
+use Rattle.mg_types.specs.declared.faults.Fault.{Fault}
+use Rattle.mg_types.specs.declared.faults.Fault.TheVariants.{Damaged}
+use Rattle.mg_types.specs.declared.names.FileId.{FileId}
 use Rattle.mg_sealed.specs.declared.reading.SealedFile.{SealedFile}
 
 -- A file of these bytes, of which this length is kept, and which ends in a frame of at least so many bytes: its lengths are

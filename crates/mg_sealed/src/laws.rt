@@ -1,7 +1,7 @@
 //! Laws of sealed files, for those who write and read one kind of them. Each function does nothing: its contract is the law.
 
 ghost use Rattle.mg_sealed.specs.Filling.{OneFilling};
-ghost use Rattle.mg_sealed.specs.Foot.{WrittenFootIsRead};
+ghost use Rattle.mg_sealed.specs.Footer.{WrittenFooterIsRead};
 ghost use Rattle.mg_sealed.specs.Lists.{OneListOfFrames};
 
 /// Items are filled into blocks in one way.
@@ -9,9 +9,9 @@ pub const fn one_filling<T>()
     ensures { OneFilling T }
 {}
 
-/// The foot of a file that was written here is read, and is refused nowhere.
-pub const fn written_foot_is_read()
-    ensures { WrittenFootIsRead }
+/// The footer of a file that was written here is read, and is refused nowhere.
+pub const fn written_footer_is_read()
+    ensures { WrittenFooterIsRead }
 {}
 
 /// Bytes are the numbered frames of one list of bodies.

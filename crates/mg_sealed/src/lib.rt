@@ -14,9 +14,10 @@ mod reading;
 mod tests;
 mod writing;
 
-pub use blocks::read_block;
-pub use numbers::{NUMBER_LIMIT, check_numbers};
-pub use reading::{Frame, SealedFile, open_sealed, read_foot, read_frame};
+pub use blocks::{BLOCK_LIMIT, Block, Blocks};
+pub use errors::{damaged, malformed};
+pub use numbers::{check_numbers, check_offset, grown};
+pub use reading::{Frame, SealedFile, open_sealed, read_footer, read_frame};
 pub use writing::{
     FrameWriter, Placed, append_frame, seal_frames, start_frames, written_frame_is_read,
 };

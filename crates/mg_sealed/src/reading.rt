@@ -2,20 +2,17 @@
 
 ghost use Rattle.std.specs.Prelude.{◌≡◌, ◌+◌, ◌-◌, ◌<◌, ◌≤◌, ◌^◌, ◌⊎◌, length, take, drop, IfOk, IfErr, IfSome, MatchResult, Ok, Err};
 ghost use Rattle.mg_faults.specs.Causes.{HasCause};
-ghost use Rattle.mg_frame.specs.Frame.{said_number, taken};
+ghost use Rattle.mg_frame.specs.Frame.{said_number, taken, StandsAt};
 ghost use Rattle.mg_sealed.specs.Answers.{Answers, IsOutside};
-ghost use Rattle.mg_sealed.specs.Foot.{foot_body, judged_foot, said_blocks};
+ghost use Rattle.mg_sealed.specs.Footer.{footer_body, judged_footer, said_blocks};
 ghost use Rattle.mg_sealed.specs.Reading.{body_or_damage, frame_body, needed, opened, IsDamageAt, IsEnough};
 
-use crate::errors::read_fault;
+use crate::errors::{damaged, malformed, read_fault};
 use mg_disk::Files;
-use mg_frame::{FRAME_OVERHEAD, Taken, get_u32, get_u64, take_frame};
-use mg_model::{Fault, FileId};
-use std::alloc::Global;
+use mg_frame::{FRAME_HEADER, FRAME_OVERHEAD, Taken, get_u32, get_u64, take_frame};
+use mg_types::{Fault, FileId};
+use std::alloc::{AllocError, Global};
 use std::marker::Model;
-
-/// The bytes of a frame before its body.
-const HEADER: usize = 12;
 
 /// A sealed file with the length that is kept of it.
 #[derive(Drop)]
@@ -65,6 +62,11 @@ impl Frame {
         bytes.truncate(end - start);
         bytes
     }
+
+    /// The memory that was read, which another read may fill again.
+    pub(crate) fn into_buffer(self) -> Vec<u8> {
+        self.bytes
+    }
 }
 
 /// Judges a file's length: that it is the length `len` which is kept of the file, and at least `least`, the length of the
@@ -79,6 +81,7 @@ pub fn open_sealed<F: Files>(
     least: u64,
 ) -> Result<SealedFile<F::Sealed>, Fault>
     ensures told { IfSome (F.told file) (λ bytes. Answers (opened id file len least bytes) result) }
+    ensures refusals { IfErr result (λ fault. IsOutside fault ⊎ IsDamageAt id 0 fault) }
     ensures same { IfOk result (λ opened. opened ≡ record { id = id; file = file; len = len }) }
     ensures least { IfOk result (λ opened. least ≤ opened.len) }
     ensures cause { HasCause Fault.ReadFault (F.faults port.old) (F.faults port.new) result }
@@ -93,7 +96,7 @@ pub fn open_sealed<F: Files>(
     Ok(SealedFile { id, file, len })
 }
 
-/// Reads the frame of this number at a place, and judges it: first whether it lies within the file, then its number, then
+/// Reads the frame of this number at an offset, and judges it: first whether it lies within the file, then its number, then
 /// its digest. `expected` is how long the whole frame may be thought to be: so many bytes are read at once, and where the
 /// frame is longer, it is read again. It takes memory for the frame alone, or for `expected` bytes.
 pub fn read_frame<F: Files>(
@@ -107,17 +110,40 @@ pub fn read_frame<F: Files>(
     requires { at < 2 ^ 62 }
     ensures told { IfSome (F.told file.now.file) (λ bytes. file.now.len ≡ length bytes →
         Answers (frame_body file.now.id bytes at number) result) }
+    ensures stands { IfSome (F.told file.now.file) (λ bytes. file.now.len ≡ length bytes →
+        IfOk result (λ body. StandsAt bytes at (number, body))) }
     ensures refusals { IfErr result (λ fault. IsOutside fault ⊎ IsDamageAt file.now.id at fault) }
     ensures cause { HasCause Fault.ReadFault (F.faults port.old) (F.faults port.new) result }
 {
-    let bytes = read_enough(alloc, port, file, at, expected)?;
+    read_frame_into(alloc, port, file, at, expected, number, Vec::new(alloc))
+}
+
+/// `read_frame` into memory that is lent. It takes more where that does not suffice.
+pub(crate) fn read_frame_into<F: Files>(
+    alloc: Global,
+    port: &mut F,
+    file: &SealedFile<F::Sealed>,
+    at: u64,
+    expected: usize,
+    number: u64,
+    buffer: Vec<u8>,
+) -> Result<Frame, Fault>
+    requires { at < 2 ^ 62 }
+    ensures told { IfSome (F.told file.now.file) (λ bytes. file.now.len ≡ length bytes →
+        Answers (frame_body file.now.id bytes at number) result) }
+    ensures stands { IfSome (F.told file.now.file) (λ bytes. file.now.len ≡ length bytes →
+        IfOk result (λ body. StandsAt bytes at (number, body))) }
+    ensures refusals { IfErr result (λ fault. IsOutside fault ⊎ IsDamageAt file.now.id at fault) }
+    ensures cause { HasCause Fault.ReadFault (F.faults port.old) (F.faults port.new) result }
+{
+    let bytes = read_enough(alloc, port, file, at, expected, buffer)?;
     judge(file.id, at, file.len, number, bytes)
 }
 
-/// Reads the foot, the frame that ends the file, and judges it: first whether it is whole, then the length of its body,
+/// Reads the footer, the frame that ends the file, and judges it: first whether it is whole, then the length of its body,
 /// then its number. The whole frame has `size` bytes, and its body ends in the number of the file's blocks (u32); behind
-/// these stand `others` more frames, and then the foot. A body of another length is malformed. It takes memory for the frame.
-pub fn read_foot<F: Files>(
+/// these stand `others` more frames, and then the footer. A body of another length is malformed. It takes memory for the frame.
+pub fn read_footer<F: Files>(
     alloc: Global,
     port: &mut F,
     file: &SealedFile<F::Sealed>,
@@ -129,26 +155,29 @@ pub fn read_foot<F: Files>(
     requires place { file.now.len < 2 ^ 62 }
     requires others { others < 2 ^ 32 }
     ensures told { IfSome (F.told file.now.file) (λ bytes. file.now.len ≡ length bytes →
-        Answers (foot_body file.now.id bytes size others) result) }
+        Answers (footer_body file.now.id bytes size others) result) }
+    ensures stands { IfSome (F.told file.now.file) (λ bytes. file.now.len ≡ length bytes →
+        IfOk result (λ body. StandsAt bytes (file.now.len - size) (said_blocks body + others, body))) }
     ensures len { IfOk result (λ body. length body + 20 ≡ size) }
     ensures refusals { IfErr result (λ fault. IsOutside fault ⊎ IsDamageAt file.now.id (file.now.len - size) fault
         ⊎ (fault ≡ Fault.Malformed file.now.id (file.now.len - size))) }
     ensures cause { HasCause Fault.ReadFault (F.faults port.old) (F.faults port.new) result }
 {
     let at = file.len - size;
-    let bytes = read_enough(alloc, port, file, at, size as usize)?;
+    let bytes = read_enough(alloc, port, file, at, size as usize, Vec::new(alloc))?;
     let stored = stored_number(&bytes);
-    let foot = judge(file.id, at, file.len, stored, bytes)?;
-    judge_foot(file.id, at, size, others, stored, foot)
+    let footer = judge(file.id, at, file.len, stored, bytes)?;
+    judge_footer(file.id, at, size, others, stored, footer)
 }
 
-/// Reads as much from a place on as the frame needs that begins there, as far as the file has it.
+/// Reads as much from an offset on as the frame needs that begins there, as far as the file has it.
 fn read_enough<F: Files>(
     alloc: Global,
     port: &mut F,
     file: &SealedFile<F::Sealed>,
     at: u64,
     expected: usize,
+    buffer: Vec<u8>,
 ) -> Result<Vec<u8>, Fault>
     ensures told { IfSome (F.told file.now.file) (λ bytes. file.now.len ≡ length bytes →
         IfOk result (λ piece. IsEnough (drop at bytes) piece.items)) }
@@ -156,33 +185,43 @@ fn read_enough<F: Files>(
     ensures cause { HasCause Fault.ReadFault (F.faults port.old) (F.faults port.new) result }
 {
     let left = file.len.saturating_sub(at);
-    let first = left.min(expected.max(HEADER) as u64);
-    let piece = read_piece(alloc, port, file, at, first as usize)?;
+    let first = left.min(expected.max(FRAME_HEADER) as u64);
+    let piece = read_piece(alloc, port, file, at, first as usize, buffer)?;
     let needed = needed(&piece);
     if needed <= piece.len() as u64 || needed > left {
         return Ok(piece);
     }
-    read_piece(alloc, port, file, at, needed as usize)
+    read_piece(alloc, port, file, at, needed as usize, piece)
 }
 
-/// Reads the `size` bytes from a place on, or as many of them as the file has.
+/// Reads the `size` bytes from an offset on, or as many of them as the file has. What was in the buffer is overwritten; only
+/// bytes by which it grows are set to zero before.
 fn read_piece<F: Files>(
     alloc: Global,
     port: &mut F,
     file: &SealedFile<F::Sealed>,
     at: u64,
     size: usize,
+    buffer: Vec<u8>,
 ) -> Result<Vec<u8>, Fault>
     ensures told { IfSome (F.told file.now.file) (λ bytes. IfOk result (λ piece. piece.items ≡ take size (drop at bytes))) }
     ensures outside { IfErr result (λ fault. IsOutside fault) }
     ensures cause { HasCause Fault.ReadFault (F.faults port.old) (F.faults port.new) result }
 {
-    let mut bytes = vec![in alloc; 0u8; size]?;
+    let mut bytes = sized(buffer, size)?;
     let count = port
         .read(alloc, &file.file, at, &mut bytes)
         .map_err(read_fault)?;
     bytes.truncate(count);
     Ok(bytes)
+}
+
+/// The buffer with so many bytes.
+fn sized(mut buffer: Vec<u8>, size: usize) -> Result<Vec<u8>, AllocError>
+    ensures { IfOk result (λ bytes. length bytes.items ≡ size) }
+{
+    buffer.resize(size, 0)?;
+    Ok(buffer)
 }
 
 /// How many bytes the frame needs that the bytes begin, or its front where they are shorter than that.
@@ -192,21 +231,22 @@ fn needed(bytes: &[u8]) -> u64
     ensures bound { result < 2 ^ 33 }
 {
     match get_u32(bytes, 0) {
-        Some(body) if bytes.len() >= HEADER => u64::from(body) + FRAME_OVERHEAD as u64,
-        _ => HEADER as u64,
+        Some(body) if bytes.len() >= FRAME_HEADER => u64::from(body) + FRAME_OVERHEAD as u64,
+        _ => FRAME_HEADER as u64,
     }
 }
 
-/// Judges the frame that the bytes begin, which stand at a place of a file.
+/// Judges the frame that the bytes begin, which stand at an offset of a file.
 fn judge(id: FileId, at: u64, len: u64, number: u64, bytes: Vec<u8>) -> Result<Frame, Fault>
     requires { at < 2 ^ 62 }
-    ensures { MatchResult result
+    ensures judged { MatchResult result
         (λ body. body_or_damage id at len bytes.items (taken bytes.items 0 number) ≡ Ok body)
         (λ fault. body_or_damage id at len bytes.items (taken bytes.items 0 number) ≡ Err fault) }
+    ensures stands { IfOk result (λ body. StandsAt bytes.items 0 (number, body)) }
 {
     match take_frame(&bytes, 0, number) {
         Taken::Whole { start, end, .. } => Ok(Frame { bytes, start, end }),
-        Taken::End => Err(damaged(id, at, at + HEADER as u64, len)),
+        Taken::End => Err(damaged(id, at, at + FRAME_HEADER as u64, len)),
         Taken::Short { .. } => Err(damaged(id, at, at + needed(&bytes), len)),
         Taken::Number { kept, asked } => Err(damaged(id, at, kept, asked)),
         Taken::Torn { kept, found } => Err(damaged(id, at, kept, found)),
@@ -218,14 +258,14 @@ fn judge(id: FileId, at: u64, len: u64, number: u64, bytes: Vec<u8>) -> Result<F
 fn stored_number(bytes: &[u8]) -> u64
     ensures { 12 ≤ length bytes.now → result ≡ said_number bytes.now }
 {
-    if bytes.len() < HEADER {
+    if bytes.len() < FRAME_HEADER {
         return 0;
     }
     get_u64(bytes, 4).unwrap_or(0)
 }
 
-/// How many blocks a foot's body says.
-#[tactic(auto, unfolding(crate::specs::Foot::said_blocks, mg_frame::specs::BigEndian::front_number))]
+/// How many blocks a footer's body says.
+#[tactic(auto, unfolding(crate::specs::Footer::said_blocks, mg_frame::specs::BigEndian::front_number))]
 fn said_blocks(body: &[u8]) -> u32
     requires { 4 ≤ length body.now }
     ensures { result ≡ said_blocks body.now }
@@ -233,42 +273,31 @@ fn said_blocks(body: &[u8]) -> u32
     get_u32(body, body.len() - 4).unwrap_or(0)
 }
 
-/// Judges a foot that is whole and has the number `stored`, and stands at a place of a file.
-fn judge_foot(
+/// Judges a footer that is whole and has the number `stored`, and stands at an offset of a file.
+fn judge_footer(
     id: FileId,
     at: u64,
     size: u64,
     others: u64,
     stored: u64,
-    foot: Frame,
+    footer: Frame,
 ) -> Result<Frame, Fault>
     requires size { 24 ≤ size }
     requires others { others < 2 ^ 32 }
     ensures judged { MatchResult result
-        (λ body. judged_foot id at size others stored (Ok foot) ≡ Ok body)
-        (λ fault. judged_foot id at size others stored (Ok foot) ≡ Err fault) }
+        (λ body. judged_footer id at size others stored (Ok footer) ≡ Ok body)
+        (λ fault. judged_footer id at size others stored (Ok footer) ≡ Err fault) }
+    ensures same { IfOk result (λ body. (body ≡ footer) × (stored ≡ said_blocks body + others)) }
     ensures len { IfOk result (λ body. length body + 20 ≡ size) }
     ensures refusals { IfErr result (λ fault. IsDamageAt id at fault ⊎ (fault ≡ Fault.Malformed id at)) }
 {
-    let body = foot.body();
+    let body = footer.body();
     if body.len() as u64 + FRAME_OVERHEAD as u64 != size {
-        return Err(Fault::Malformed { file: id, at });
+        return Err(malformed(id, at));
     }
     let asked = u64::from(said_blocks(body)) + others;
     if stored != asked {
         return Err(damaged(id, at, stored, asked));
     }
-    Ok(foot)
-}
-
-/// The fault of two numbers that a file keeps at a place, and that don't agree.
-fn damaged(file: FileId, at: u64, kept: u64, found: u64) -> Fault
-    ensures { result ≡ Fault.Damaged file at kept found }
-{
-    Fault::Damaged {
-        file,
-        at,
-        kept,
-        found,
-    }
+    Ok(footer)
 }

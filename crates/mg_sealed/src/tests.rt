@@ -1,13 +1,13 @@
 use super::*;
 use mg_disk::{DiskError, Files};
 use mg_memdisk::{MemFiles, MemSealed};
-use mg_model::{Fault, FileId};
+use mg_types::{Fault, FileId, Kind};
 use std::alloc::Global;
 use std::test::Fail;
 
 const ID: FileId = FileId {
     part: 0,
-    kind: 1,
+    kind: Kind::Table,
     number: 7,
 };
 
@@ -104,6 +104,25 @@ fn each_damage_is_named(rt: HostRuntime) -> Result<(), Fail> {
 }
 
 #[test]
+fn a_block_is_read_at_once_and_gives_its_buffer_back(rt: HostRuntime) -> Result<(), Fail> {
+    let alloc = rt.alloc();
+    // Three calls write the file and one asks for its length, so that the second read fails.
+    let mut port = MemFiles::new(vec![in alloc; 6]?);
+    let file = seal(alloc, &mut port, &FILE)?;
+    let file = open_sealed(alloc, &mut port, ID, file, 43, 0)?;
+    let block = port.block(alloc, &file, 0, 22, 0, Vec::new(alloc))?;
+    assert_eq!(rt; block.body(), b"ab".as_slice());
+    let buffer = block.into_buffer();
+    let second = port.block(alloc, &file, 22, 21, 1, Vec::new(alloc));
+    assert_eq!(rt; second.err(), Some(Fault::ReadFault));
+    let block = port.block(alloc, &file, 22, 21, 1, buffer)?;
+    assert_eq!(rt; block.body(), b"c".as_slice());
+    let long = port.block(alloc, &file, 22, 22, 1, block.into_buffer());
+    assert_eq!(rt; long.err(), Some(Fault::Malformed { file: ID, at: 22 }));
+    Ok(())
+}
+
+#[test]
 fn lengths_are_judged_first(rt: HostRuntime) -> Result<(), Fail> {
     let alloc = rt.alloc();
     for (len, least, fault) in [
@@ -127,15 +146,26 @@ fn the_first_number_that_is_too_great_is_damaged(rt: HostRuntime) {
         check_numbers(ID, 5, &[most, 1 << 62, 1 << 63]),
         Err(damaged(5, 1 << 62, 1 << 62))
     );
+    let malformed = Fault::Malformed { file: ID, at: 5 };
+    for (offset, answer) in [
+        (7, Ok(())),
+        (8, Err(malformed)),
+        (1 << 62, Err(damaged(5, 1 << 62, 1 << 62))),
+    ] {
+        assert_eq!(rt; check_offset(ID, 5, 7, offset), answer);
+    }
+    let most = (1 << 32) - 1;
+    assert_eq!(rt; grown(most - 20, 20), Ok(most));
+    assert_eq!(rt; grown(most - 20, 21), Err(Fault::Worn { kept: most - 20 }));
 }
 
-/// A foot with number 1 behind one block. Its digest was computed with another program.
-const FOOT: [u8; 24] = [
+/// A footer with number 1 behind one block. Its digest was computed with another program.
+const FOOTER: [u8; 24] = [
     0, 0, 0, 4, 0, 0, 0, 0, 0, 0, 0, 1, 0, 0, 0, 1, 0xf2, 0xe2, 0x86, 0x31, 0x21, 0x43, 0x2d, 0x70,
 ];
 
-/// The body of the foot of a file of these bytes, whose frame has `size` bytes and stands behind one block and `others`.
-fn foot(alloc: Global, bytes: &[u8], size: u64, others: u64) -> Result<Vec<u8>, Fault> {
+/// The body of the footer of a file of these bytes, whose frame has `size` bytes and stands behind one block and `others`.
+fn footer(alloc: Global, bytes: &[u8], size: u64, others: u64) -> Result<Vec<u8>, Fault> {
     let mut port = MemFiles::new(Vec::new(alloc));
     let Ok(file) = seal(alloc, &mut port, bytes) else {
         return Err(Fault::WriteFault);
@@ -144,36 +174,36 @@ fn foot(alloc: Global, bytes: &[u8], size: u64, others: u64) -> Result<Vec<u8>, 
     if size < 24 || others >= 1 << 32 || file.len >= 1 << 62 {
         return Err(Fault::BadWords);
     }
-    Ok(read_foot(alloc, &mut port, &file, size, others)?.into_body())
+    Ok(read_footer(alloc, &mut port, &file, size, others)?.into_body())
 }
 
 #[test]
-fn a_foot_is_judged(rt: HostRuntime) -> Result<(), Fail> {
+fn a_footer_is_judged(rt: HostRuntime) -> Result<(), Fail> {
     let alloc = rt.alloc();
     assert_eq!(rt;
-        foot(alloc, &FOOT, 24, 0)?.as_slice(),
+        footer(alloc, &FOOTER, 24, 0)?.as_slice(),
         [0, 0, 0, 1].as_slice()
     );
     let mut behind = [0; 25];
-    behind[1..].copy_from_slice(&FOOT);
+    behind[1..].copy_from_slice(&FOOTER);
     assert_eq!(rt;
-        foot(alloc, &behind, 24, 0)?.as_slice(),
+        footer(alloc, &behind, 24, 0)?.as_slice(),
         [0, 0, 0, 1].as_slice()
     );
     // One frame more should stand before it.
-    assert_eq!(rt; foot(alloc, &FOOT, 24, 1).err(), Some(damaged(0, 1, 2)));
-    // A foot of another length.
-    behind[..24].copy_from_slice(&FOOT);
+    assert_eq!(rt; footer(alloc, &FOOTER, 24, 1).err(), Some(damaged(0, 1, 2)));
+    // A footer of another length.
+    behind[..24].copy_from_slice(&FOOTER);
     let malformed = Fault::Malformed { file: ID, at: 0 };
-    assert_eq!(rt; foot(alloc, &behind, 25, 0).err(), Some(malformed));
-    let mut torn = FOOT;
+    assert_eq!(rt; footer(alloc, &behind, 25, 0).err(), Some(malformed));
+    let mut torn = FOOTER;
     torn[15] = 2;
     assert_eq!(rt;
-        foot(alloc, &torn, 24, 9).err(),
+        footer(alloc, &torn, 24, 9).err(),
         Some(damaged(0, 0xf2e2_8631_2143_2d70, 0x00cd_190f_e98a_7b36))
     );
     torn[3] = 5;
-    assert_eq!(rt; foot(alloc, &torn, 24, 0).err(), Some(damaged(0, 25, 24)));
+    assert_eq!(rt; footer(alloc, &torn, 24, 0).err(), Some(damaged(0, 25, 24)));
     Ok(())
 }
 

@@ -11,7 +11,7 @@ use crate::errors::write_fault;
 use crate::reading::SealedFile;
 use mg_disk::Files;
 use mg_frame::{FRAME_OVERHEAD, put_frame};
-use mg_model::{Fault, FileId};
+use mg_types::{Fault, FileId};
 use std::alloc::Global;
 use std::marker::Model;
 

@@ -1,4 +1,4 @@
-use Rattle.std.proofs.Common.{suc, take, drop, slice_index_or, refl, sym, subst, arith}
+use Rattle.std.proofs.Common.{suc, take, drop, slice_index_or, sym, subst, arith}
 use Rattle.std.proofs.lemmas.List.{take_all, take_more}
 use Rattle.std.proofs.Math.Seq.{split_at}
 use Rattle.mg_sealed.specs.Numbers.{AreKept}
@@ -16,7 +16,7 @@ returns-then-number-ge-NUMBER_LIMIT c =
       numbers_are = split_at numbers i 0 c.loop-number-test.true;
       kept = c.loop-number.invariant;
       great = c.if-number-ge-NUMBER_LIMIT.true;
-      fault_is = refl;
+      fault_is = c.damaged.ensures;
     }
 
 pub loop-number-preserved : goal.loop-number-preserved
