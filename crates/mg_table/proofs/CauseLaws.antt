@@ -1,6 +1,5 @@
 -- Why a key is not found, or a table is not listed, and what is read of its blocks.
-use Rattle.std.proofs.Common.{◌≡◌, ℕ, ◌+◌, ◌<◌, ◌⊎◌, suc, Bool, false, List, [], ◌∷◌, ◌++◌, length, get_or, map, take, refl, sym, ap, subst, ◌∙◌, inl, inr, arith, Option, Some, None, Result, Ok, Err, IfOk, MatchBool, MatchOption}
-use Rattle.std.proofs.lemmas.List.{length-take-le, take_more}
+use Rattle.std.proofs.Common.{◌≡◌, ℕ, ◌+◌, ◌<◌, ◌⊎◌, suc, Bool, false, List, [], ◌∷◌, ◌++◌, length, get_or, map, refl, ap, subst, ◌∙◌, inl, inr, arith, Option, Some, None, Result, Ok, Err, IfOk, MatchBool, MatchOption}
 use Rattle.std.proofs.lemmas.List.Elements.{at_read}
 use Rattle.std.specs.List.{All}
 use Rattle.mg_block.specs.Block.{Begins, IsBlock}
@@ -10,71 +9,72 @@ use Rattle.mg_block.specs.View.{last_pair}
 use Rattle.mg_block.specs.declared.pair.NotABlock.{NotABlock}
 use Rattle.mg_block.specs.declared.pair.Pair.{Pair}
 use Rattle.mg_block.proofs.Spelling.{last_pair_after-push}
-use Rattle.mg_model.specs.declared.faults.Fault.{Fault}
-use Rattle.mg_model.specs.declared.faults.Fault.TheVariants.{NoMemory}
-use Rattle.mg_model.specs.declared.faults.FileId.{FileId}
+use Rattle.mg_frame.specs.Frame.{StandsAt}
+use Rattle.mg_types.specs.declared.faults.Fault.{Fault}
+use Rattle.mg_types.specs.declared.faults.Fault.TheVariants.{NoMemory}
+use Rattle.mg_types.specs.declared.names.FileId.{FileId}
 use Rattle.mg_sealed.specs.Answers.{Answers, IsOutside}
-use Rattle.mg_sealed.specs.Filling.{items_of}
-use Rattle.mg_table.specs.Entries.{block_body, pair_of, payload_of, AreEntries, IsEntry}
-use Rattle.mg_table.specs.Reading.{read_at, AreRead, HasBody, IsBlockRefused, IsFindRead, IsFindRefused, IsListUnfit, IsPayloadRefused, IsRefusedAt, IsScanRefused, IsSearchUnfit, IsSoughtIn}
-use Rattle.mg_table.specs.declared.entry.Entry.{Entry}
-use Rattle.mg_table.specs.declared.index.BlockPlace.{BlockPlace}
+use Rattle.mg_table.specs.Entries.{block_body, pair_of, payload_of, AreEntries}
+use Rattle.mg_types.specs.Items.{IsEntry}
+use Rattle.mg_table.specs.Reading.{read_at, AreRead, HasBody, IsBlockRefused, IsFindRead, IsFindRefused, IsListUnfit, IsPayloadRefused, IsRefusedAt, BeginsWithKey, IsFindUnfit, IsSoughtIn}
+use Rattle.mg_types.specs.declared.items.Entry.{Entry}
+use Rattle.mg_table.specs.declared.index.BlockHandle.{BlockHandle}
 use Rattle.mg_table.specs.declared.table.Table.{Table}
-use Rattle.mg_sealed.proofs.FilledLaws.{items_of-push}
 use Rattle.mg_table.proofs.ListingLaws.{Lists, no_pair}
-use Rattle.mg_table.proofs.RefusalLaws.{under_both, under_then, Under}
+use Rattle.mg_table.proofs.RefusalLaws.{under_then, Under}
 
 -- ---- a block
 
 -- what is said of a block's body
 abbrev pub OfBody : Type 1
-OfBody = ℕ → List ℕ → Fault → Type 0
+OfBody = BlockHandle → List ℕ → Fault → Type 0
 
-pub frame_refused : {S : Type 0} (told : Option (List ℕ)) (table : Table S) (k : ℕ) (place : BlockPlace) (Unfit : OfBody) (fault : Fault) → k < length table.index
-    → place ≡ get_or table.index k place → Under told table.file.len (λ bytes. Answers (read_at table.file.id bytes place k) (Err fault))
+pub frame_refused : {S : Type 0} (told : Option (List ℕ)) (table : Table S) (k : ℕ) (handle : BlockHandle) (Unfit : OfBody) (fault : Fault) → k < length table.index
+    → handle ≡ get_or table.index k handle → Under told table.file.len (λ bytes. Answers (read_at table.file.id bytes handle k) (Err fault))
     → Under told table.file.len (λ bytes. IsOutside fault ⊎ IsBlockRefused table bytes k Unfit fault)
-frame_refused told table k place Unfit fault within there known =
-    under_then told table.file.len (λ bytes. Answers (read_at table.file.id bytes place k) (Err fault)) (λ bytes. IsOutside fault ⊎ IsBlockRefused table bytes k Unfit fault)
+frame_refused told table k handle Unfit fault within there known =
+    under_then told table.file.len (λ bytes. Answers (read_at table.file.id bytes handle k) (Err fault)) (λ bytes. IsOutside fault ⊎ IsBlockRefused table bytes k Unfit fault)
     (λ bytes same h. elim h [
       | inl outside ↦ inl outside
-      | inr is ↦ inr (within, at_read table.index (IsRefusedAt table.file.id bytes k Unfit fault) k place within there (inl is))
+      | inr is ↦ inr (within, at_read table.index (IsRefusedAt table.file.id bytes k Unfit fault) k handle within there (inl is))
     ]) known
 
-pub body_refused : {S : Type 0} (told : Option (List ℕ)) (table : Table S) (k : ℕ) (place : BlockPlace) (Unfit : OfBody) (fault : Fault) (frame : List ℕ) → k < length table.index
-    → place ≡ get_or table.index k place → (fault ≡ NoMemory) ⊎ Unfit place.at frame fault → Under told table.file.len (λ bytes. read_at table.file.id bytes place k ≡ Ok frame)
+pub body_refused : {S : Type 0} (told : Option (List ℕ)) (table : Table S) (k : ℕ) (handle : BlockHandle) (Unfit : OfBody) (fault : Fault) (frame : List ℕ) → k < length table.index
+    → handle ≡ get_or table.index k handle → (fault ≡ NoMemory) ⊎ Unfit handle frame fault → Under told table.file.len (λ bytes. read_at table.file.id bytes handle k ≡ Ok frame)
     → Under told table.file.len (λ bytes. IsOutside fault ⊎ IsBlockRefused table bytes k Unfit fault)
-body_refused told table k place Unfit fault frame within there why known =
-    under_then told table.file.len (λ bytes. read_at table.file.id bytes place k ≡ Ok frame) (λ bytes. IsOutside fault ⊎ IsBlockRefused table bytes k Unfit fault)
+body_refused told table k handle Unfit fault frame within there why known =
+    under_then told table.file.len (λ bytes. read_at table.file.id bytes handle k ≡ Ok frame) (λ bytes. IsOutside fault ⊎ IsBlockRefused table bytes k Unfit fault)
     (λ bytes same h. elim why [
       | inl memory ↦ inl (inl memory)
-      | inr unfit ↦ inr (within, at_read table.index (IsRefusedAt table.file.id bytes k Unfit fault) k place within there (inr (frame, h, unfit)))
+      | inr unfit ↦ inr (within, at_read table.index (IsRefusedAt table.file.id bytes k Unfit fault) k handle within there (inr (frame, h, unfit)))
     ]) known
 
 -- a block that is refused keeps its table from finding a key
 pub find_refused : {S : Type 0} (told : Option (List ℕ)) (table : Table S) (key : List ℕ) (k : ℕ) (fault : Fault) → IsSoughtIn table key k
-    → Under told table.file.len (λ bytes. IsOutside fault ⊎ IsBlockRefused table bytes k (λ at body. IsSearchUnfit table.file.id at body key) fault)
+    → Under told table.file.len (λ bytes. IsOutside fault ⊎ IsBlockRefused table bytes k (λ (p : BlockHandle) body. IsFindUnfit table.file.id p body key) fault)
     → Under told table.file.len (λ bytes. IsOutside fault ⊎ IsFindRefused table bytes key fault)
 find_refused told table key k fault sought known =
-    under_then told table.file.len (λ bytes. IsOutside fault ⊎ IsBlockRefused table bytes k (λ at body. IsSearchUnfit table.file.id at body key) fault)
+    under_then told table.file.len (λ bytes. IsOutside fault ⊎ IsBlockRefused table bytes k (λ (p : BlockHandle) body. IsFindUnfit table.file.id p body key) fault)
     (λ bytes. IsOutside fault ⊎ IsFindRefused table bytes key fault)
     (λ bytes same h. elim h [ inl outside ↦ inl outside | inr is ↦ inr (k, sought, is) ]) known
 
--- what is so of the body that was read is so of a body at the place in the index
-body-at : {S : Type 0} (table : Table S) (bytes : List ℕ) (k : ℕ) (place : BlockPlace) (frame : List ℕ) (P : List ℕ → Type 0) → k < length table.index
-    → place ≡ get_or table.index k place → read_at table.file.id bytes place k ≡ Ok frame → P frame → HasBody table bytes k P
-body-at table bytes k place frame P within there read is =
-    at_read table.index (λ (p : BlockPlace). (body : List ℕ) × (read_at table.file.id bytes p k ≡ Ok body) × P body) k place within there (frame, read, is)
+-- what is so of the body that was read is so of a body at the handle in the index
+body-at : {S : Type 0} (table : Table S) (bytes : List ℕ) (k : ℕ) (handle : BlockHandle) (frame : List ℕ) (P : List ℕ → Type 0) → k < length table.index
+    → handle ≡ get_or table.index k handle → read_at table.file.id bytes handle k ≡ Ok frame → BeginsWithKey frame handle.key → P frame → HasBody table bytes k P
+body-at table bytes k handle frame P within there read begins is =
+    at_read table.index (λ (p : BlockHandle). (body : List ℕ) × (read_at table.file.id bytes p k ≡ Ok body) × BeginsWithKey body p.key × P body) k handle within there
+    (frame, read, begins, is)
 
-pub find_read : {S : Type 0} (told : Option (List ℕ)) (table : Table S) (key : List ℕ) (k : ℕ) (place : BlockPlace) (frame : List ℕ) (found : Option Entry) → IsSoughtIn table key k
-    → place ≡ get_or table.index k place
+pub find_read : {S : Type 0} (told : Option (List ℕ)) (table : Table S) (key : List ℕ) (k : ℕ) (handle : BlockHandle) (frame : List ℕ) (found : Option Entry) → IsSoughtIn table key k
+    → handle ≡ get_or table.index k handle → BeginsWithKey frame handle.key
     → MatchOption found (Misses frame key) (λ entry. (entry.key ≡ key) × IsEntry entry × Finds frame key (payload_of entry))
-    → Under told table.file.len (λ bytes. read_at table.file.id bytes place k ≡ Ok frame) → Under told table.file.len (λ bytes. IsFindRead table bytes key found)
-find_read told table key k place frame None sought there misses read =
-    under_then told table.file.len (λ bytes. read_at table.file.id bytes place k ≡ Ok frame) (λ bytes. IsFindRead table bytes key None)
-    (λ bytes same h. inr (k, sought, body-at table bytes k place frame (λ body. Misses body key) sought.within there h misses)) read
-find_read told table key k place frame (Some entry) sought there is read =
-    under_then told table.file.len (λ bytes. read_at table.file.id bytes place k ≡ Ok frame) (λ bytes. IsFindRead table bytes key (Some entry))
-    (λ bytes same h. (is.0, is.1, (k, sought, body-at table bytes k place frame (λ body. Finds body key (payload_of entry)) sought.within there h is.2))) read
+    → Under told table.file.len (λ bytes. read_at table.file.id bytes handle k ≡ Ok frame) → Under told table.file.len (λ bytes. IsFindRead table bytes key found)
+find_read told table key k handle frame None sought there begins misses read =
+    under_then told table.file.len (λ bytes. read_at table.file.id bytes handle k ≡ Ok frame) (λ bytes. IsFindRead table bytes key None)
+    (λ bytes same h. inr (k, sought, body-at table bytes k handle frame (λ body. Misses body key) sought.within there h begins misses)) read
+find_read told table key k handle frame (Some entry) sought there begins is read =
+    under_then told table.file.len (λ bytes. read_at table.file.id bytes handle k ≡ Ok frame) (λ bytes. IsFindRead table bytes key (Some entry))
+    (λ bytes same h. (is.0, is.1, (k, sought, body-at table bytes k handle frame (λ body. Finds body key (payload_of entry)) sought.within there h begins is.2))) read
 
 -- ---- what is listed of a block
 
@@ -102,63 +102,22 @@ list-read block cursor before now lists is =
 
 -- ---- all blocks
 
-read-push : (id : FileId) (bytes : List ℕ) (n : ℕ) (places : List BlockPlace) (blocks : List (List Entry)) (place : BlockPlace) (block : List Entry) → AreRead id bytes n places blocks
-    → read_at id bytes place (n + length places) ≡ Ok (block_body block) → AreEntries block → AreRead id bytes n (places ++ place ∷ []) (blocks ++ block ∷ [])
-read-push id bytes n [] [] place block are read is = (subst (λ (k : ℕ). read_at id bytes place k ≡ Ok (block_body block)) (omega arith) read, is, tt)
-read-push id bytes n [] (other ∷ blocks) place block are read is = absurd are
-read-push id bytes n (p ∷ places) [] place block are read is = absurd are
-read-push id bytes n (p ∷ places) (other ∷ blocks) place block are read is =
-    (are.0, are.1, read-push id bytes (n + 1) places blocks place block are.2 (subst (λ (k : ℕ). read_at id bytes place k ≡ Ok (block_body block)) (omega arith) read) is)
+-- the block of this number is read, and stands there as a frame
+abbrev pub IsReadAt : FileId → List ℕ → BlockHandle → List Entry → ℕ → Type 0
+IsReadAt id bytes handle block number = (read_at id bytes handle number ≡ Ok (block_body block)) × StandsAt bytes handle.at (number, block_body block)
 
-read-length : (id : FileId) (bytes : List ℕ) (n : ℕ) (places : List BlockPlace) (blocks : List (List Entry)) → AreRead id bytes n places blocks → length blocks ≡ length places
+pub read-push : (id : FileId) (bytes : List ℕ) (n : ℕ) (handles : List BlockHandle) (blocks : List (List Entry)) (handle : BlockHandle) (block : List Entry) → AreRead id bytes n handles blocks
+    → IsReadAt id bytes handle block (n + length handles) → AreEntries block → AreRead id bytes n (handles ++ handle ∷ []) (blocks ++ block ∷ [])
+read-push id bytes n [] [] handle block are read is =
+    let here = subst (IsReadAt id bytes handle block) (omega arith) read in
+    (here.0, here.1, is, tt)
+read-push id bytes n [] (other ∷ blocks) handle block are read is = absurd are
+read-push id bytes n (p ∷ handles) [] handle block are read is = absurd are
+read-push id bytes n (p ∷ handles) (other ∷ blocks) handle block are read is =
+    (are.0, are.1, are.2, read-push id bytes (n + 1) handles blocks handle block are.3 (subst (IsReadAt id bytes handle block) (omega arith) read) is)
+
+pub read-length : (id : FileId) (bytes : List ℕ) (n : ℕ) (handles : List BlockHandle) (blocks : List (List Entry)) → AreRead id bytes n handles blocks → length blocks ≡ length handles
 read-length id bytes n [] [] are = refl
 read-length id bytes n [] (block ∷ blocks) are = absurd are
-read-length id bytes n (place ∷ places) [] are = absurd are
-read-length id bytes n (place ∷ places) (block ∷ blocks) are = ap suc (read-length id bytes (n + 1) places blocks are.2)
-
--- the blocks before this number were read so, and these are their entries
-abbrev pub ReadsTo : {S : Type 0} → Table S → ℕ → List Entry → List ℕ → Type 0
-ReadsTo table number entries bytes =
-    (blocks : List (List Entry)) × AreRead table.file.id bytes 0 (take number table.index) blocks × (entries ≡ items_of blocks)
-
-pub reads-more : {S : Type 0} (told : Option (List ℕ)) (table : Table S) (k : ℕ) (place : BlockPlace) (frame : List ℕ) (entries more listed : List Entry) → k < length table.index
-    → place ≡ get_or table.index k place → more ≡ entries ++ listed → IsBlock frame (map pair_of listed) → All IsEntry listed
-    → Under told table.file.len (λ bytes. read_at table.file.id bytes place k ≡ Ok frame) → Under told table.file.len (ReadsTo table k entries)
-    → Under told table.file.len (ReadsTo table (k + 1) more)
-reads-more told table k place frame entries more listed within there is block each read so_far =
-    under_then told table.file.len (λ bytes. (read_at table.file.id bytes place k ≡ Ok frame) × ReadsTo table k entries bytes) (ReadsTo table (k + 1) more)
-    (λ bytes same h.
-    let id = table.file.id in
-    let blocks = h.1.0 in
-    let places : take (k + 1) table.index ≡ take k table.index ++ place ∷ [] =
-    take_more table.index k place within ∙ ap (λ (p : BlockPlace). take k table.index ++ p ∷ []) (sym there) in
-    let count : 0 + length (take k table.index) ≡ k = omega (arith, length-take-le k table.index (omega arith)) in
-    let body : read_at id bytes place k ≡ Ok (block_body listed) = h.0 ∙ ap (λ (b : List ℕ). let r : Result (List ℕ) Fault = Ok b in r) block.spelling in
-    let here = subst (λ (n : ℕ). read_at id bytes place n ≡ Ok (block_body listed)) (sym count) body in
-    let are = read-push id bytes 0 (take k table.index) blocks place listed h.1.1 here (record { rising = block.rising; each = each }) in (
-      blocks ++ listed ∷ [],
-      subst (λ ps. AreRead id bytes 0 ps (blocks ++ listed ∷ [])) (sym places) are,
-      is ∙ ap (λ es. es ++ listed) h.1.2 ∙ sym (items_of-push blocks listed),
-    ))
-    (under_both told table.file.len (λ bytes. read_at table.file.id bytes place k ≡ Ok frame) (ReadsTo table k entries) read so_far)
-
--- a block that is refused behind others that were read
-pub scan_refused : {S : Type 0} (told : Option (List ℕ)) (table : Table S) (k : ℕ) (entries : List Entry) (fault : Fault) → k < length table.index
-    → Under told table.file.len (ReadsTo table k entries)
-    → Under told table.file.len (λ bytes. IsOutside fault ⊎ IsBlockRefused table bytes k (λ at body. IsListUnfit table.file.id at body) fault)
-    → Under told table.file.len (λ bytes. IsOutside fault ⊎ IsScanRefused table bytes fault)
-scan_refused told table k entries fault within so_far known =
-    let Refused : List ℕ → Type 0 = λ bytes. IsOutside fault ⊎ IsBlockRefused table bytes k (λ at body. IsListUnfit table.file.id at body) fault in
-    under_then told table.file.len (λ bytes. ReadsTo table k entries bytes × Refused bytes) (λ bytes. IsOutside fault ⊎ IsScanRefused table bytes fault)
-    (λ bytes same h. elim h.1 [
-      | inl outside ↦ inl outside
-      | inr is ↦ (
-          let blocks = h.0.0 in
-          let count : length blocks ≡ k = read-length table.file.id bytes 0 (take k table.index) blocks h.0.1 ∙ length-take-le k table.index (omega arith) in
-          inr (
-            blocks,
-            subst (λ (n : ℕ). AreRead table.file.id bytes 0 (take n table.index) blocks) (sym count) h.0.1,
-            subst (λ (n : ℕ). IsBlockRefused table bytes n (λ at body. IsListUnfit table.file.id at body) fault) (sym count) is,
-          ))
-    ])
-    (under_both told table.file.len (ReadsTo table k entries) Refused so_far known)
+read-length id bytes n (handle ∷ handles) [] are = absurd are
+read-length id bytes n (handle ∷ handles) (block ∷ blocks) are = ap suc (read-length id bytes (n + 1) handles blocks are.3)

@@ -12,9 +12,10 @@ use Rattle.mg_block.proofs.Spelling.{RiseAfter-push}
 use Rattle.mg_block.proofs.Views.{length-item_of-pair}
 use Rattle.mg_frame.specs.BigEndian.{big_endian}
 use Rattle.mg_frame.proofs.BigEndianLaws.{length-big_endian}
-use Rattle.mg_table.specs.Entries.{flag, pair_of, payload_of, AreEntries, IsEntry}
+use Rattle.mg_table.specs.Entries.{flag, pair_of, payload_of, AreEntries}
+use Rattle.mg_types.specs.Items.{IsEntry}
 use Rattle.mg_table.specs.Table.{sizes_of}
-use Rattle.mg_table.specs.declared.entry.Entry.{Entry}
+use Rattle.mg_types.specs.declared.items.Entry.{Entry}
 
 pub length-payload_of : (entry : Entry) → length (payload_of entry) ≡ 13
 unfolding payload_of

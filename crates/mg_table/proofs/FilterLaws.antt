@@ -1,11 +1,13 @@
 -- The words of keys in a filter, one key after the other, and in what it is folded to.
-use Rattle.std.proofs.Common.{◌≡◌, ℕ, Bool, true, false, ◌||◌, eqb, List, [], ◌∷◌, ◌++◌, length, replicate, refl, sym, ap, ◌∙◌, arith, subst}
+use Rattle.std.proofs.Common.{◌≡◌, ◌≢◌, IsTrue, MatchBool, ℕ, Bool, true, false, ◌||◌, eqb, List, [], ◌∷◌, ◌++◌, length, replicate, refl, sym, ap, ◌∙◌, arith, subst}
 use Rattle.std.proofs.lemmas.List.{append-nil}
 use Rattle.std.proofs.lemmas.List.Folds.{concat-append, list_any-append}
 use Rattle.std.specs.List.{concat, list_any}
 use Rattle.mg_bloom.specs.Bloom.{bit_count, has_bit, place_of, AddsWords, IsBitCountFor}
 use Rattle.mg_bloom.specs.Folding.{HasBitsOf, KeepsWords}
 use Rattle.mg_bloom.proofs.BloomLaws.{AddsWords-none}
+use Rattle.mg_bloom.proofs.OneFilter.{one_filter}
+use Rattle.mg_frame.specs.BigEndian.{AreBytes}
 use Rattle.mg_table.specs.Filters.{IsFilterOf}
 
 or-assoc : (a b c : Bool) → ((a || b) || c) ≡ (a || (b || c))
@@ -45,3 +47,14 @@ IsFilterOf-folded hashed count old new is size has keeps = record {
   size = subst (λ n. IsBitCountFor n (bit_count new)) is size;
   bits = keeps (concat hashed) has;
 }
+
+-- keys have one filter
+pub same_filter : (hashed : List (List ℕ)) (filter other : List ℕ) → AreBytes filter → AreBytes other → IsFilterOf hashed filter → IsFilterOf hashed other → filter ≡ other
+unfolding AreBytes
+same_filter hashed filter other small small' is is' = one_filter (length hashed) (concat hashed) filter other small small' is.size is'.size is.bits is'.bits
+
+-- a body that is compared with a filter of keys
+pub compared : (hashed : List (List ℕ)) (made body : List ℕ) (r : Bool) → MatchBool r (made ≡ body) (made ≢ body) → AreBytes made → AreBytes body → IsFilterOf hashed made
+    → (IsTrue r → IsFilterOf hashed body) × (IsFilterOf hashed body → IsTrue r)
+compared hashed made body true same small small' is = (λ yes. subst (IsFilterOf hashed) same is, λ right. refl)
+compared hashed made body false apart small small' is = (λ yes. absurd cc, λ right. absurd (apart (same_filter hashed made body small small' is right)))

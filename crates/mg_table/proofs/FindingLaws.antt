@@ -15,16 +15,17 @@ use Rattle.mg_block.proofs.Order.{bytes_eq-above, Precedes-trans}
 use Rattle.mg_bloom.specs.Bloom.{has_bit, has_words, key_words, place_of}
 use Rattle.mg_bloom.proofs.BloomLaws.{has_words-added}
 use Rattle.mg_sealed.specs.Filling.{AreFilled, items_of}
-use Rattle.mg_table.specs.Entries.{block_body, first_key, pair_of, payload_of, IsEntry}
+use Rattle.mg_table.specs.Entries.{block_body, first_key, pair_of, payload_of}
+use Rattle.mg_types.specs.Items.{IsEntry}
 use Rattle.mg_table.specs.Filters.{IsFilterOf}
-use Rattle.mg_table.specs.Index.{places_from}
+use Rattle.mg_table.specs.Index.{handles_from}
 use Rattle.mg_table.specs.Reading.{entry_of, IsSoughtIn, IsSoughtNowhere}
 use Rattle.mg_table.specs.Table.{hashed_keys, IsTableOf}
-use Rattle.mg_table.specs.declared.entry.Entry.{Entry}
-use Rattle.mg_table.specs.declared.index.BlockPlace.{BlockPlace}
+use Rattle.mg_types.specs.declared.items.Entry.{Entry}
+use Rattle.mg_table.specs.declared.index.BlockHandle.{BlockHandle}
 use Rattle.mg_table.specs.declared.table.Table.{Table}
-use Rattle.mg_table.proofs.LoadingLaws.{length-places_from}
-use Rattle.mg_table.proofs.ReadingLaws.{place-at, RiseAfter-behind}
+use Rattle.mg_table.proofs.LoadingLaws.{length-handles_from}
+use Rattle.mg_table.proofs.ReadingLaws.{handle-at, RiseAfter-behind}
 
 bytes_eq-apart : (a b : List ℕ) → (a ≡ b → ⊥) → bytes_eq a b ≡ false
 bytes_eq-apart a b apart = false_from_ne_true (bytes_eq a b) (λ same. apart ((bytes_eq-Decides a b).0 same))
@@ -110,35 +111,35 @@ none-denied key filter entries is denied =
 -- ---- by the index
 
 -- Behind so many blocks one begins above the key, and the last of these does not.
-pub record Between (index : List BlockPlace) (key : List ℕ) (low high : ℕ) : Type 0 where
+pub record Between (index : List BlockHandle) (key : List ℕ) (low high : ℕ) : Type 0 where
   pub order : low ≤ high
   pub within : high ≤ length index
-  pub last : 0 < low → HoldsAt (λ place. Precedes key place.key → ⊥) index (low - 1)
-  pub following : high < length index → HoldsAt (λ place. Precedes key place.key) index high
+  pub last : 0 < low → HoldsAt (λ handle. Precedes key handle.key → ⊥) index (low - 1)
+  pub following : high < length index → HoldsAt (λ handle. Precedes key handle.key) index high
 
-key-at : (blocks : List (List Entry)) (k : ℕ) (p : BlockPlace) → k < length blocks → (get_or (places_from 0 blocks) k p).key ≡ first_key (get_or blocks k [])
-key-at blocks k p within = ap (λ (place : BlockPlace). place.key) (place-at 0 blocks k p [] within)
+key-at : (blocks : List (List Entry)) (k : ℕ) (p : BlockHandle) → k < length blocks → (get_or (handles_from 0 blocks) k p).key ≡ first_key (get_or blocks k [])
+key-at blocks k p within = ap (λ (handle : BlockHandle). handle.key) (handle-at 0 blocks k p [] within)
 
-no_place : BlockPlace
+no_place : BlockHandle
 no_place = record { key = []; at = 0; len = 0 }
 
-pub none-of : (lo hi : ℕ) (entries : List Entry) (blocks : List (List Entry)) (filter key : List ℕ) (index : List BlockPlace)
-    → IsTableOf lo hi entries blocks filter → index ≡ places_from 0 blocks → (0 < length index → HoldsAt (λ place. Precedes key place.key) index 0) → entry_of key entries ≡ None
+pub none-of : (lo hi : ℕ) (entries : List Entry) (blocks : List (List Entry)) (filter key : List ℕ) (index : List BlockHandle)
+    → IsTableOf lo hi entries blocks filter → index ≡ handles_from 0 blocks → (0 < length index → HoldsAt (λ handle. Precedes key handle.key) index 0) → entry_of key entries ≡ None
 none-of lo hi entries blocks filter key index is indexed following =
-    let same = ap length indexed ∙ length-places_from 0 blocks in
-    ap (entry_of key) (sym is.whole)
-    ∙ none-following key [] blocks (subst (λ es. AreRising (map pair_of es)) (sym is.whole) is.rising.rising) is.filled
+    let same = ap length indexed ∙ length-handles_from 0 blocks in
+    ap (entry_of key) (sym is.listed.whole)
+    ∙ none-following key [] blocks (subst (λ es. AreRising (map pair_of es)) (sym is.listed.whole) is.listed.rising.rising) is.listed.filled
     (λ some. subst (λ (k : List ℕ). Precedes key k) (key-at blocks 0 no_place some) (subst (λ ps. Precedes key (get_or ps 0 no_place).key) indexed (following (omega (arith, same)) no_place)))
 
-pub one-of : (lo hi : ℕ) (entries : List Entry) (blocks : List (List Entry)) (filter key : List ℕ) (index : List BlockPlace) (k : ℕ)
-    → IsTableOf lo hi entries blocks filter → index ≡ places_from 0 blocks → k < length index
-    → HoldsAt (λ place. Precedes key place.key → ⊥) index k → (k + 1 < length index → HoldsAt (λ place. Precedes key place.key) index (k + 1))
+pub one-of : (lo hi : ℕ) (entries : List Entry) (blocks : List (List Entry)) (filter key : List ℕ) (index : List BlockHandle) (k : ℕ)
+    → IsTableOf lo hi entries blocks filter → index ≡ handles_from 0 blocks → k < length index
+    → HoldsAt (λ handle. Precedes key handle.key → ⊥) index k → (k + 1 < length index → HoldsAt (λ handle. Precedes key handle.key) index (k + 1))
     → HoldsAt (λ block. entry_of key entries ≡ entry_of key block) blocks k
 one-of lo hi entries blocks filter key index k is indexed within last following = λ d.
-    let same = ap length indexed ∙ length-places_from 0 blocks in
+    let same = ap length indexed ∙ length-handles_from 0 blocks in
     let inside : k < length blocks = omega (arith, same) in
-    ap (entry_of key) (sym is.whole)
-    ∙ found-in key [] blocks k (subst (λ es. AreRising (map pair_of es)) (sym is.whole) is.rising.rising) is.filled inside
+    ap (entry_of key) (sym is.listed.whole)
+    ∙ found-in key [] blocks k (subst (λ es. AreRising (map pair_of es)) (sym is.listed.whole) is.listed.rising.rising) is.listed.filled inside
     (λ above. last no_place (subst (λ ps. Precedes key (get_or ps k no_place).key) (sym indexed) (subst (λ (x : List ℕ). Precedes key x) (sym (key-at blocks k no_place inside)) above)))
     (λ more.
     let step : k + 1 ≡ suc k = omega arith in
@@ -153,40 +154,40 @@ zero-from zero none = refl
 zero-from (suc n) none = absurd (none (omega arith))
 
 -- the block before so many, if any is
-pub chosen : (lo hi : ℕ) (entries : List Entry) (blocks : List (List Entry)) (filter key : List ℕ) (index : List BlockPlace) (n : ℕ) (number : Option ℕ)
-    → IsTableOf lo hi entries blocks filter → index ≡ places_from 0 blocks → n ≤ length index
-    → (0 < n → HoldsAt (λ place. Precedes key place.key → ⊥) index (n - 1)) → (n < length index → HoldsAt (λ place. Precedes key place.key) index n)
+pub chosen : (lo hi : ℕ) (entries : List Entry) (blocks : List (List Entry)) (filter key : List ℕ) (index : List BlockHandle) (n : ℕ) (number : Option ℕ)
+    → IsTableOf lo hi entries blocks filter → index ≡ handles_from 0 blocks → n ≤ length index
+    → (0 < n → HoldsAt (λ handle. Precedes key handle.key → ⊥) index (n - 1)) → (n < length index → HoldsAt (λ handle. Precedes key handle.key) index n)
     → SomeIff number (1 ≤ n) (n - 1)
     → MatchOption number (entry_of key entries ≡ None) (λ number. HoldsAt (λ block. entry_of key entries ≡ entry_of key block) blocks number)
 chosen lo hi entries blocks filter key index n None is indexed within last following before =
     let none : n ≡ 0 = zero-from n before in
     none-of lo hi entries blocks filter key index is indexed
-    (λ some. subst (λ (k : ℕ). HoldsAt (λ (place : BlockPlace). Precedes key place.key) index k) none (following (omega arith)))
+    (λ some. subst (λ (k : ℕ). HoldsAt (λ (handle : BlockHandle). Precedes key handle.key) index k) none (following (omega arith)))
 chosen lo hi entries blocks filter key index n (Some number) is indexed within last following before =
     let back : n - 1 ≡ number = sym before.1 in
     let step : n ≡ number + 1 = omega (arith, before.0) in
     one-of lo hi entries blocks filter key index number is indexed (omega arith)
-    (subst (λ (k : ℕ). HoldsAt (λ (place : BlockPlace). Precedes key place.key → ⊥) index k) back (last (omega (arith, before.0))))
-    (λ more. subst (λ (k : ℕ). HoldsAt (λ (place : BlockPlace). Precedes key place.key) index k) step (following (omega arith)))
+    (subst (λ (k : ℕ). HoldsAt (λ (handle : BlockHandle). Precedes key handle.key → ⊥) index k) back (last (omega (arith, before.0))))
+    (λ more. subst (λ (k : ℕ). HoldsAt (λ (handle : BlockHandle). Precedes key handle.key) index k) step (following (omega arith)))
 
 -- where the key is sought, if in any block
-pub sought : {S : Type 0} (table : Table S) (key : List ℕ) (index : List BlockPlace) (n : ℕ) (number : Option ℕ) → index ≡ table.index → has_words table.filter (key_words key) ≡ true
-    → n ≤ length index → (0 < n → HoldsAt (λ place. Precedes key place.key → ⊥) index (n - 1)) → (n < length index → HoldsAt (λ place. Precedes key place.key) index n)
+pub sought : {S : Type 0} (table : Table S) (key : List ℕ) (index : List BlockHandle) (n : ℕ) (number : Option ℕ) → index ≡ table.index → has_words table.filter (key_words key) ≡ true
+    → n ≤ length index → (0 < n → HoldsAt (λ handle. Precedes key handle.key → ⊥) index (n - 1)) → (n < length index → HoldsAt (λ handle. Precedes key handle.key) index n)
     → SomeIff number (1 ≤ n) (n - 1) → MatchOption number (IsSoughtNowhere table key) (λ number. IsSoughtIn table key number)
 sought table key index n None same held within last following before =
     let none : n ≡ 0 = zero-from n before in
-    inr (subst (λ (ps : List BlockPlace). 0 < length ps → HoldsAt (λ (place : BlockPlace). Precedes key place.key) ps 0) same
-    (λ some. subst (λ (k : ℕ). HoldsAt (λ (place : BlockPlace). Precedes key place.key) index k) none (following (omega arith))))
+    inr (subst (λ (ps : List BlockHandle). 0 < length ps → HoldsAt (λ (handle : BlockHandle). Precedes key handle.key) ps 0) same
+    (λ some. subst (λ (k : ℕ). HoldsAt (λ (handle : BlockHandle). Precedes key handle.key) index k) none (following (omega arith))))
 sought table key index n (Some number) same held within last following before =
     let back : n - 1 ≡ number = sym before.1 in
     let step : n ≡ number + 1 = omega (arith, before.0) in
     record {
       held = held;
       within = omega (arith, ap length same);
-      last = subst (λ (ps : List BlockPlace). HoldsAt (λ (place : BlockPlace). Precedes key place.key → ⊥) ps number) same
-          (subst (λ (k : ℕ). HoldsAt (λ (place : BlockPlace). Precedes key place.key → ⊥) index k) back (last (omega (arith, before.0))));
-      following = subst (λ (ps : List BlockPlace). number + 1 < length ps → HoldsAt (λ (place : BlockPlace). Precedes key place.key) ps (number + 1)) same
-          (λ more. subst (λ (k : ℕ). HoldsAt (λ (place : BlockPlace). Precedes key place.key) index k) step (following (omega arith)));
+      last = subst (λ (ps : List BlockHandle). HoldsAt (λ (handle : BlockHandle). Precedes key handle.key → ⊥) ps number) same
+          (subst (λ (k : ℕ). HoldsAt (λ (handle : BlockHandle). Precedes key handle.key → ⊥) index k) back (last (omega (arith, before.0))));
+      following = subst (λ (ps : List BlockHandle). number + 1 < length ps → HoldsAt (λ (handle : BlockHandle). Precedes key handle.key) ps (number + 1)) same
+          (λ more. subst (λ (k : ℕ). HoldsAt (λ (handle : BlockHandle). Precedes key handle.key) index k) step (following (omega arith)));
     }
 
 -- ---- the entry of a payload

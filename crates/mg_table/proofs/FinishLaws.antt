@@ -1,58 +1,80 @@
 -- Blocks that are closed, and the table that they make.
-use Rattle.std.proofs.Common.{◌≡◌, ◌≢◌, ℕ, ◌+◌, ◌^◌, ◌<◌, inl, inr, List, [], ◌∷◌, ◌++◌, length, map, Option, IfSome, refl, sym, ap, ◌∙◌, arith, append_assoc, subst}
+use Rattle.std.proofs.Common.{◌≡◌, ◌≢◌, ℕ, ◌+◌, ◌*◌, ◌^◌, ◌<◌, ◌≤◌, inl, inr, List, [], ◌∷◌, ◌++◌, length, map, Option, IfSome, refl, sym, ap, ◌∙◌, arith, append_assoc, subst}
 use Rattle.std.proofs.lemmas.List.{length-append, length-map, map-append}
+use Rattle.std.proofs.lemmas.List.Elements.{All-push}
+use Rattle.std.specs.List.{All}
 use Rattle.mg_bloom.specs.Bloom.{bit_count, key_words, IsBitCountFor}
 use Rattle.mg_bloom.specs.Folding.{KeepsWords}
 use Rattle.mg_frame.specs.BigEndian.{big_endian}
 use Rattle.mg_frame.specs.Frames.{numbered_frames}
 use Rattle.mg_frame.proofs.BigEndianLaws.{length-big_endian}
 use Rattle.mg_sealed.specs.Filling.{AreFilled, items_of}
-use Rattle.mg_sealed.specs.Writing.{HasFrames}
+use Rattle.mg_sealed.specs.Writing.{HasFrames, Written}
 use Rattle.mg_table.specs.Entries.{block_body, first_key, pair_of}
-use Rattle.mg_table.specs.Foot.{foot_bytes}
-use Rattle.mg_table.specs.Index.{index_bytes, places_from}
-use Rattle.mg_table.specs.Table.{foot_of, hashed_keys, sizes_of, table_bodies, Stands}
-use Rattle.mg_table.specs.Writing.{ClosedBlocks, HasBlocks, IsWriting, Writing}
-use Rattle.mg_table.specs.declared.entry.Entry.{Entry}
-use Rattle.mg_table.specs.declared.foot.Foot.{Foot}
-use Rattle.mg_table.specs.declared.index.BlockPlace.{BlockPlace}
+use Rattle.mg_table.specs.Footer.{footer_bytes}
+use Rattle.mg_table.specs.Index.{index_bytes, handle_bytes, handles_from, IsHandle}
+use Rattle.mg_table.specs.Table.{footer_of, hashed_keys, sizes_of, table_bodies, Represents}
+use Rattle.mg_table.specs.Writing.{AreBounded, ClosedBlocks, HasBlocks, IsWriting, Writing}
+use Rattle.mg_types.specs.declared.items.Entry.{Entry}
+use Rattle.mg_table.specs.declared.footer.Footer.{Footer}
+use Rattle.mg_table.specs.declared.index.BlockHandle.{BlockHandle}
 use Rattle.mg_table.specs.declared.table.Table.{Table}
 use Rattle.mg_sealed.proofs.FilledLaws.{items_of-push}
 use Rattle.mg_table.proofs.FilterLaws.{IsFilterOf-folded}
-use Rattle.mg_table.proofs.IndexLaws.{length-frames, place_behind, places_from-push, total}
-use Rattle.mg_table.proofs.PlaceLaws.{foot_is, place_is}
+use Rattle.mg_table.proofs.IndexLaws.{index_bytes-push, least-index_bytes, length-frames, length-handle_bytes, place_behind, handles_from-push, total}
+use Rattle.mg_table.proofs.PlaceLaws.{footer_is, place_is}
 
 -- ---- a block more is closed
 
-pub closes : {D : Type 0} (drafted : D → Option (List ℕ)) (old new : ClosedBlocks D) (blocks : List (List Entry)) (entries : List Entry) (block : List ℕ) (place : BlockPlace)
-    → HasBlocks drafted old blocks → HasFrames drafted new.frames (map block_body blocks ++ block ∷ []) → new.index ≡ old.index ++ place ∷ []
-    → place.key ≡ first_key entries → place.at ≡ old.frames.len → place.len ≡ length block + 20 → block ≡ block_body entries
+pub closes : {D : Type 0} (drafted : D → Option (List ℕ)) (old new : ClosedBlocks D) (blocks : List (List Entry)) (entries : List Entry) (block : List ℕ) (handle : BlockHandle)
+    → HasBlocks drafted old blocks → HasFrames drafted new.frames (map block_body blocks ++ block ∷ []) → new.index ≡ old.index ++ handle ∷ []
+    → handle.key ≡ first_key entries → handle.at ≡ old.frames.len → handle.len ≡ length block + 20 → block ≡ block_body entries
     → HasBlocks drafted new (blocks ++ entries ∷ [])
-closes drafted old new blocks entries block place has frames pushed key at len is =
+closes drafted old new blocks entries block handle has frames pushed key at len is =
     let zero : total blocks ≡ 0 + total blocks = omega arith in
-    let behind : place ≡ place_behind (0 + total blocks) entries =
-    place_is place (place_behind (0 + total blocks) entries) key (at ∙ has.frames.len ∙ length-frames blocks ∙ zero) (len ∙ ap (λ xs. length xs + 20) is) in
+    let behind : handle ≡ place_behind (0 + total blocks) entries =
+    place_is handle (place_behind (0 + total blocks) entries) key (at ∙ has.frames.len ∙ length-frames blocks ∙ zero) (len ∙ ap (λ xs. length xs + 20) is) in
     record {
       frames = subst (HasFrames drafted new.frames) (ap (λ body. map block_body blocks ++ body ∷ []) is ∙ sym (map-append block_body blocks (entries ∷ []))) frames;
-      index = pushed ∙ ap (λ ps. ps ++ place ∷ []) has.index ∙ ap (λ (p : BlockPlace). places_from 0 blocks ++ p ∷ []) behind ∙ sym (places_from-push 0 blocks entries);
+      index = pushed ∙ ap (λ ps. ps ++ handle ∷ []) has.index ∙ ap (λ (p : BlockHandle). handles_from 0 blocks ++ p ∷ []) behind ∙ sym (handles_from-push 0 blocks entries);
     }
 
--- ---- the foot
+-- what is kept of closed blocks is bounded with one handle more
+pub closed-bounded : {D : Type 0} (old : ClosedBlocks D) (frames : Written D) (handle : BlockHandle) (index : List BlockHandle) (index_len : ℕ) → AreBounded old
+    → index ≡ old.index ++ handle ∷ [] → length handle.key ≤ 250 → handle.at ≡ old.frames.len → frames.len + 4116 * old.frames.count ≤ old.frames.len + 4116 * frames.count
+    → frames.count ≤ old.frames.count + 1 → index_len ≡ length (index_bytes old.index) + (length handle.key + 13) → index_len < 2 ^ 32
+    → AreBounded (record { frames = frames; index = index }) × (index_len ≡ length (index_bytes index))
+closed-bounded old frames handle index index_len b is key at step count long fits =
+    let size : length (index_bytes index) ≡ length (index_bytes old.index) + (length handle.key + 13) =
+    ap (λ ps. length (index_bytes ps)) is ∙ ap length (index_bytes-push old.index handle) ∙ length-append (index_bytes old.index) (handle_bytes handle)
+    ∙ ap (λ n. length (index_bytes old.index) + n) (length-handle_bytes handle) in
+    let more : length index ≡ length old.index + 1 = ap length is ∙ length-append old.index (handle ∷ []) in
+    let there : handle.at < 2 ^ 62 = omega (arith, at, b.len, b.index, b.bytes, least-index_bytes old.index) in (
+      record {
+        len = omega (arith, b.len, step);
+        index = omega (arith, b.index, more, count);
+        handles = subst (All IsHandle) (sym is) (All-push IsHandle old.index handle b.handles (record { key = key; at = there }));
+        bytes = omega (arith, size, long, fits);
+      },
+      long ∙ sym size,
+    )
 
-pub length-foot_bytes : (foot : Foot) → length (foot_bytes foot) ≡ 53
-unfolding foot_bytes
-length-foot_bytes foot =
+-- ---- the footer
+
+pub length-footer_bytes : (footer : Footer) → length (footer_bytes footer) ≡ 53
+unfolding footer_bytes
+length-footer_bytes footer =
     let one = big_endian 1 1 in
-    let entries = big_endian 8 foot.entries in
-    let sizes = big_endian 8 foot.sizes in
-    let lo = big_endian 8 foot.lo in
-    let hi = big_endian 8 foot.hi in
-    let index_at = big_endian 8 foot.index_at in
-    let filter_at = big_endian 8 foot.filter_at in
-    let blocks = big_endian 4 foot.blocks in
+    let entries = big_endian 8 footer.entries in
+    let sizes = big_endian 8 footer.sizes in
+    let lo = big_endian 8 footer.lo in
+    let hi = big_endian 8 footer.hi in
+    let index_at = big_endian 8 footer.index_at in
+    let filter_at = big_endian 8 footer.filter_at in
+    let blocks = big_endian 4 footer.blocks in
     let counts = (one ++ entries) ++ sizes in
-    let places = (index_at ++ filter_at) ++ blocks in
-    length-append (counts ++ (lo ++ hi)) places
+    let handles = (index_at ++ filter_at) ++ blocks in
+    length-append (counts ++ (lo ++ hi)) handles
     ∙ omega (
       arith,
       length-append counts (lo ++ hi),
@@ -62,13 +84,13 @@ length-foot_bytes foot =
       length-append (index_at ++ filter_at) blocks,
       length-append index_at filter_at,
       length-big_endian 1 1,
-      length-big_endian 8 foot.entries,
-      length-big_endian 8 foot.sizes,
-      length-big_endian 8 foot.lo,
-      length-big_endian 8 foot.hi,
-      length-big_endian 8 foot.index_at,
-      length-big_endian 8 foot.filter_at,
-      length-big_endian 4 foot.blocks,
+      length-big_endian 8 footer.entries,
+      length-big_endian 8 footer.sizes,
+      length-big_endian 8 footer.lo,
+      length-big_endian 8 footer.hi,
+      length-big_endian 8 footer.index_at,
+      length-big_endian 8 footer.filter_at,
+      length-big_endian 4 footer.blocks,
     )
 
 -- ---- the table
@@ -76,22 +98,22 @@ length-foot_bytes foot =
 -- what is put behind the blocks, and what is kept of a table
 pub record Finishes {D S : Type 0} (drafted : D → Option (List ℕ)) (told : S → Option (List ℕ)) (writer : Writing D) (closed : ClosedBlocks D) (table : Table S) : Type 0 where
   pub some : writer.block ≢ []
-  pub count : closed.frames.count < 2 ^ 23
+  pub few : length (index_bytes closed.index) < 2 ^ 32
   pub lo : writer.lo < 2 ^ 62
   pub hi : writer.hi < 2 ^ 62
   pub filter_size : IsBitCountFor writer.count (bit_count table.filter)
   pub filter_words : KeepsWords writer.filter table.filter
   pub index : table.index ≡ closed.index
-  pub entries : table.foot.entries ≡ writer.count
-  pub sizes : table.foot.sizes ≡ writer.sizes
-  pub from : table.foot.lo ≡ writer.lo
-  pub to : table.foot.hi ≡ writer.hi
-  pub index_at : table.foot.index_at ≡ closed.frames.len
-  pub filter_at : table.foot.filter_at ≡ closed.frames.len + length (index_bytes closed.index) + 20
-  pub blocks : table.foot.blocks ≡ closed.frames.count
+  pub entries : table.footer.entries ≡ writer.count
+  pub sizes : table.footer.sizes ≡ writer.sizes
+  pub from : table.footer.lo ≡ writer.lo
+  pub to : table.footer.hi ≡ writer.hi
+  pub index_at : table.footer.index_at ≡ closed.frames.len
+  pub filter_at : table.footer.filter_at ≡ closed.frames.len + length (index_bytes closed.index) + 20
+  pub blocks : table.footer.blocks ≡ closed.frames.count
   pub sealed : (bodies : List (List ℕ)) → HasFrames drafted closed.frames bodies
-      → (table.file.len ≡ length (numbered_frames (((bodies ++ index_bytes closed.index ∷ []) ++ table.filter ∷ []) ++ foot_bytes table.foot ∷ [])))
-      × IfSome (told table.file.file) (λ bytes. bytes ≡ numbered_frames (((bodies ++ index_bytes closed.index ∷ []) ++ table.filter ∷ []) ++ foot_bytes table.foot ∷ []))
+      → (table.file.len ≡ length (numbered_frames (((bodies ++ index_bytes closed.index ∷ []) ++ table.filter ∷ []) ++ footer_bytes table.footer ∷ [])))
+      × IfSome (told table.file.file) (λ bytes. bytes ≡ numbered_frames (((bodies ++ index_bytes closed.index ∷ []) ++ table.filter ∷ []) ++ footer_bytes table.footer ∷ []))
 
 nil_behind : {T : Type 0} (xs ys : List T) → xs ++ ys ≡ [] → ys ≡ []
 nil_behind [] ys none = none
@@ -99,7 +121,7 @@ nil_behind (x ∷ xs) ys none = absurd cc
 
 pub finished : {D S : Type 0} (drafted : D → Option (List ℕ)) (told : S → Option (List ℕ)) (writer : Writing D) (closed : ClosedBlocks D) (table : Table S)
     (entries : List Entry) (blocks : List (List Entry)) (last : List Entry)
-    → IsWriting drafted writer entries blocks last → HasBlocks drafted closed (blocks ++ last ∷ []) → Finishes drafted told writer closed table → Stands told table entries
+    → IsWriting drafted writer entries blocks last → HasBlocks drafted closed (blocks ++ last ∷ []) → Finishes drafted told writer closed table → Represents told table entries
 finished drafted told writer closed table entries blocks last is has ends =
     let all = blocks ++ last ∷ [] in
     let bodies = map block_body all in
@@ -107,35 +129,37 @@ finished drafted told writer closed table entries blocks last is has ends =
     let whole : items_of all ≡ entries = items_of-push blocks last ∙ is.parts in
     let filled : AreFilled block_body all = elim is.filled [ inl none ↦ absurd (begun none.1) | inr some ↦ some.1 ] in
     let count : closed.frames.count ≡ length all = has.frames.count ∙ length-map all block_body in
-    let foot : table.foot ≡ foot_of table.foot.lo table.foot.hi all table.filter =
-    foot_is table.foot (foot_of table.foot.lo table.foot.hi all table.filter)
+    let footer : table.footer ≡ footer_of table.footer.lo table.footer.hi all table.filter =
+    footer_is table.footer (footer_of table.footer.lo table.footer.hi all table.filter)
     (ends.entries ∙ is.count ∙ sym (ap length whole))
     (ends.sizes ∙ is.sizes ∙ sym (ap sizes_of whole)) refl refl
     (ends.index_at ∙ has.frames.len)
     (ends.filter_at ∙ ap (λ n. n + length (index_bytes closed.index) + 20) has.frames.len ∙ ap (λ ps. length (numbered_frames bodies) + length (index_bytes ps) + 20) has.index)
     (ends.blocks ∙ count) in
-    let same : ((bodies ++ index_bytes closed.index ∷ []) ++ table.filter ∷ []) ++ foot_bytes table.foot ∷ [] ≡ table_bodies table.foot.lo table.foot.hi all table.filter =
-    append_assoc (bodies ++ index_bytes closed.index ∷ []) (table.filter ∷ []) (foot_bytes table.foot ∷ [])
-    ∙ append_assoc bodies (index_bytes closed.index ∷ []) (table.filter ∷ foot_bytes table.foot ∷ [])
-    ∙ ap (λ ps. bodies ++ index_bytes ps ∷ table.filter ∷ foot_bytes table.foot ∷ []) has.index
-    ∙ ap (λ f. bodies ++ index_bytes (places_from 0 all) ∷ table.filter ∷ foot_bytes f ∷ []) foot in
+    let same : ((bodies ++ index_bytes closed.index ∷ []) ++ table.filter ∷ []) ++ footer_bytes table.footer ∷ [] ≡ table_bodies table.footer.lo table.footer.hi all table.filter =
+    append_assoc (bodies ++ index_bytes closed.index ∷ []) (table.filter ∷ []) (footer_bytes table.footer ∷ [])
+    ∙ append_assoc bodies (index_bytes closed.index ∷ []) (table.filter ∷ footer_bytes table.footer ∷ [])
+    ∙ ap (λ ps. bodies ++ index_bytes ps ∷ table.filter ∷ footer_bytes table.footer ∷ []) has.index
+    ∙ ap (λ f. bodies ++ index_bytes (handles_from 0 all) ∷ table.filter ∷ footer_bytes f ∷ []) footer in
     let sealed = ends.sealed bodies has.frames in
     let Frames = λ (bs : List (List ℕ)). (table.file.len ≡ length (numbered_frames bs)) × IfSome (told table.file.file) (λ bytes. bytes ≡ numbered_frames bs) in
     let told_is = subst Frames same sealed in
     record {
       blocks = all;
       parts = record {
-        some = λ none. begun (nil_behind (items_of blocks) last (is.parts ∙ none));
-        rising = is.rising;
-        whole = whole;
-        filled = filled;
-        few = omega (arith, count, ends.count);
+        listed = record {
+          some = λ none. begun (nil_behind (items_of blocks) last (is.parts ∙ none));
+          rising = is.rising;
+          whole = whole;
+          filled = filled;
+          few = subst (λ (ps : List BlockHandle). length (index_bytes ps) < 2 ^ 32) has.index ends.few;
+          from = omega (arith, ends.from, ends.lo);
+          to = omega (arith, ends.to, ends.hi);
+        };
         filtered = IsFilterOf-folded (hashed_keys entries) writer.count writer.filter table.filter (is.count ∙ sym (length-map entries (λ (e : Entry). key_words e.key)))
             ends.filter_size is.filter ends.filter_words;
-        from = omega (arith, ends.from, ends.lo);
-        to = omega (arith, ends.to, ends.hi);
       };
-      foot = foot;
+      footer = footer;
       index = ends.index ∙ has.index;
       len = told_is.0;
       file = told_is.1;

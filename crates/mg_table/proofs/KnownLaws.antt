@@ -1,21 +1,21 @@
 -- What is known of a file where its port tells that it is a table.
 use Rattle.std.proofs.Common.{◌≡◌, ℕ, ◌+◌, ◌≤◌, List, length, refl, sym, ap, ◌∙◌, subst, arith, Option, Some, None, IfSome, Result, Ok, Err, MatchResult}
 use Rattle.mg_frame.specs.Frames.{numbered_frames}
-use Rattle.mg_model.specs.declared.faults.Fault.{Fault}
-use Rattle.mg_model.specs.declared.faults.FileId.{FileId}
+use Rattle.mg_types.specs.declared.faults.Fault.{Fault}
+use Rattle.mg_types.specs.declared.names.FileId.{FileId}
 use Rattle.mg_sealed.specs.Answers.{Answers, IsOutside}
-use Rattle.mg_sealed.specs.Foot.{foot_body}
+use Rattle.mg_sealed.specs.Footer.{footer_body}
 use Rattle.mg_sealed.specs.Reading.{frame_body, opened}
 use Rattle.mg_sealed.specs.declared.reading.SealedFile.{SealedFile}
 use Rattle.mg_sealed.proofs.AnswerLaws.{opened-ok}
-use Rattle.mg_table.specs.Foot.{foot_bytes}
-use Rattle.mg_table.specs.Index.{index_bytes, places_from}
+use Rattle.mg_table.specs.Footer.{footer_bytes}
+use Rattle.mg_table.specs.Index.{index_bytes, handles_from}
 use Rattle.mg_table.specs.Loading.{Knows}
-use Rattle.mg_table.specs.Table.{foot_of, table_bodies, IsTable, IsTableOf, Stands}
-use Rattle.mg_table.specs.declared.entry.Entry.{Entry}
-use Rattle.mg_table.specs.declared.foot.Foot.{Foot}
+use Rattle.mg_table.specs.Table.{footer_of, table_bodies, IsTable, IsTableOf, Represents}
+use Rattle.mg_types.specs.declared.items.Entry.{Entry}
+use Rattle.mg_table.specs.declared.footer.Footer.{Footer}
 use Rattle.mg_table.specs.declared.table.Table.{Table}
-use Rattle.mg_table.proofs.LoadingLaws.{reads_filter, reads_foot, reads_index, file_ends}
+use Rattle.mg_table.proofs.LoadingLaws.{reads_filter, reads_footer, reads_index, file_ends}
 
 -- something of the interval, the blocks and the filter of a table
 abbrev pub Of : Type 1
@@ -41,39 +41,39 @@ knows_opened {S} (Some bytes) id file len result known = λ lo hi entries is sam
     let enough : 73 ≤ length bytes = omega (arith, ap length is.bytes_are, file_ends lo hi is.blocks is.filter) in
     subst (λ (a : Result (SealedFile S) Fault). Answers a result) (opened-ok id file len 73 bytes same enough) known
 
-pub knows_foot : (told : Option (List ℕ)) (id : FileId) (len : ℕ) (result : Result (List ℕ) Fault)
-    → IfSome told (λ bytes. len ≡ length bytes → Answers (foot_body id bytes 73 2) result)
-    → Knows told len (λ lo hi blocks filter. Answers (Ok (foot_bytes (foot_of lo hi blocks filter))) result)
-knows_foot None id len result known = tt
-knows_foot (Some bytes) id len result known = λ lo hi entries is same.
+pub knows_footer : (told : Option (List ℕ)) (id : FileId) (len : ℕ) (result : Result (List ℕ) Fault)
+    → IfSome told (λ bytes. len ≡ length bytes → Answers (footer_body id bytes 73 2) result)
+    → Knows told len (λ lo hi blocks filter. Answers (Ok (footer_bytes (footer_of lo hi blocks filter))) result)
+knows_footer None id len result known = tt
+knows_footer (Some bytes) id len result known = λ lo hi entries is same.
     subst (λ (a : Result (List ℕ) Fault). Answers a result)
-    (ap (λ (b : List ℕ). foot_body id b 73 2) is.bytes_are ∙ reads_foot id lo hi entries is.blocks is.filter is.parts) (known (sym same))
+    (ap (λ (b : List ℕ). footer_body id b 73 2) is.bytes_are ∙ reads_footer id lo hi entries is.blocks is.filter is.parts) (known (sym same))
 
-pub knows_index : (told : Option (List ℕ)) (id : FileId) (len : ℕ) (foot : Foot) (number : ℕ) (result : Result (List ℕ) Fault) → number ≡ foot.blocks
-    → IfSome told (λ bytes. len ≡ length bytes → Answers (frame_body id bytes foot.index_at number) result)
-    → Knows told len (λ lo hi blocks filter. foot ≡ foot_of lo hi blocks filter → Answers (Ok (index_bytes (places_from 0 blocks))) result)
-knows_index None id len foot number result count known = tt
-knows_index (Some bytes) id len foot number result count known = λ lo hi entries is same there.
-    let reads : frame_body id bytes foot.index_at number ≡ Ok (index_bytes (places_from 0 is.blocks)) =
-    ap (λ (b : List ℕ). frame_body id b foot.index_at number) is.bytes_are
-    ∙ ap (λ (n : ℕ). frame_body id (numbered_frames (table_bodies lo hi is.blocks is.filter)) foot.index_at n) (count ∙ ap (λ (f : Foot). f.blocks) there)
-    ∙ ap (λ (f : Foot). frame_body id (numbered_frames (table_bodies lo hi is.blocks is.filter)) f.index_at (length is.blocks)) there
+pub knows_index : (told : Option (List ℕ)) (id : FileId) (len : ℕ) (footer : Footer) (number : ℕ) (result : Result (List ℕ) Fault) → number ≡ footer.blocks
+    → IfSome told (λ bytes. len ≡ length bytes → Answers (frame_body id bytes footer.index_at number) result)
+    → Knows told len (λ lo hi blocks filter. footer ≡ footer_of lo hi blocks filter → Answers (Ok (index_bytes (handles_from 0 blocks))) result)
+knows_index None id len footer number result count known = tt
+knows_index (Some bytes) id len footer number result count known = λ lo hi entries is same there.
+    let reads : frame_body id bytes footer.index_at number ≡ Ok (index_bytes (handles_from 0 is.blocks)) =
+    ap (λ (b : List ℕ). frame_body id b footer.index_at number) is.bytes_are
+    ∙ ap (λ (n : ℕ). frame_body id (numbered_frames (table_bodies lo hi is.blocks is.filter)) footer.index_at n) (count ∙ ap (λ (f : Footer). f.blocks) there)
+    ∙ ap (λ (f : Footer). frame_body id (numbered_frames (table_bodies lo hi is.blocks is.filter)) f.index_at (length is.blocks)) there
     ∙ reads_index id lo hi entries is.blocks is.filter is.parts in
     subst (λ (a : Result (List ℕ) Fault). Answers a result) reads (known (sym same))
 
-pub knows_filter : (told : Option (List ℕ)) (id : FileId) (len : ℕ) (foot : Foot) (number : ℕ) (result : Result (List ℕ) Fault) → number ≡ foot.blocks + 1
-    → IfSome told (λ bytes. len ≡ length bytes → Answers (frame_body id bytes foot.filter_at number) result)
-    → Knows told len (λ lo hi blocks filter. foot ≡ foot_of lo hi blocks filter → Answers (Ok filter) result)
-knows_filter None id len foot number result count known = tt
-knows_filter (Some bytes) id len foot number result count known = λ lo hi entries is same there.
-    let reads : frame_body id bytes foot.filter_at number ≡ Ok is.filter =
-    ap (λ (b : List ℕ). frame_body id b foot.filter_at number) is.bytes_are
-    ∙ ap (λ (n : ℕ). frame_body id (numbered_frames (table_bodies lo hi is.blocks is.filter)) foot.filter_at n) (count ∙ ap (λ (f : Foot). f.blocks + 1) there)
-    ∙ ap (λ (f : Foot). frame_body id (numbered_frames (table_bodies lo hi is.blocks is.filter)) f.filter_at (length is.blocks + 1)) there
+pub knows_filter : (told : Option (List ℕ)) (id : FileId) (len : ℕ) (footer : Footer) (number : ℕ) (result : Result (List ℕ) Fault) → number ≡ footer.blocks + 1
+    → IfSome told (λ bytes. len ≡ length bytes → Answers (frame_body id bytes footer.filter_at number) result)
+    → Knows told len (λ lo hi blocks filter. footer ≡ footer_of lo hi blocks filter → Answers (Ok filter) result)
+knows_filter None id len footer number result count known = tt
+knows_filter (Some bytes) id len footer number result count known = λ lo hi entries is same there.
+    let reads : frame_body id bytes footer.filter_at number ≡ Ok is.filter =
+    ap (λ (b : List ℕ). frame_body id b footer.filter_at number) is.bytes_are
+    ∙ ap (λ (n : ℕ). frame_body id (numbered_frames (table_bodies lo hi is.blocks is.filter)) footer.filter_at n) (count ∙ ap (λ (f : Footer). f.blocks + 1) there)
+    ∙ ap (λ (f : Footer). frame_body id (numbered_frames (table_bodies lo hi is.blocks is.filter)) f.filter_at (length is.blocks + 1)) there
     ∙ reads_filter id lo hi entries is.blocks is.filter is.parts in
     subst (λ (a : Result (List ℕ) Fault). Answers a result) reads (known (sym same))
 
-pub knows_length : (told : Option (List ℕ)) (len : ℕ) → Knows told len (λ lo hi blocks filter. len ≡ (foot_of lo hi blocks filter).filter_at + (length filter + 20) + 73)
+pub knows_length : (told : Option (List ℕ)) (len : ℕ) → Knows told len (λ lo hi blocks filter. len ≡ (footer_of lo hi blocks filter).filter_at + (length filter + 20) + 73)
 knows_length None len = tt
 knows_length (Some bytes) len = λ lo hi entries is same. sym same ∙ ap length is.bytes_are ∙ file_ends lo hi is.blocks is.filter
 
@@ -83,43 +83,43 @@ knows_length (Some bytes) len = λ lo hi entries is same. sym same ∙ ap length
 abbrev pub Loaded : {S : Type 0} → (S → Option (List ℕ)) → Option (List ℕ) → ℕ → Result (Table S) Fault → Type 0
 Loaded told known len result =
     IfSome known (λ bytes. (lo hi : ℕ) (entries : List Entry) → IsTable bytes lo hi entries → length bytes ≡ len →
-    MatchResult result (λ table. Stands told table entries × (table.foot.lo ≡ lo) × (table.foot.hi ≡ hi)) (λ fault. IsOutside fault))
+    MatchResult result (λ table. Represents told table entries × (table.footer.lo ≡ lo) × (table.footer.hi ≡ hi)) (λ fault. IsOutside fault))
 
 -- an error that comes from outside, whatever the table is
 pub outside_err : {S : Type 0} (told : S → Option (List ℕ)) (known : Option (List ℕ)) (len : ℕ) (result : Result (Table S) Fault) (fault : Fault) → result ≡ Err fault
     → Knows known len (λ _ _ _ _. IsOutside fault) → Loaded told known len result
 outside_err told None len result fault is knows = tt
 outside_err {S} told (Some bytes) len result fault is knows = λ lo hi entries table same.
-    subst (λ (r : Result (Table S) Fault). MatchResult r (λ t. Stands told t entries × (t.foot.lo ≡ lo) × (t.foot.hi ≡ hi)) (λ f. IsOutside f)) (sym is) (knows lo hi entries table same)
+    subst (λ (r : Result (Table S) Fault). MatchResult r (λ t. Represents told t entries × (t.footer.lo ≡ lo) × (t.footer.hi ≡ hi)) (λ f. IsOutside f)) (sym is) (knows lo hi entries table same)
 
 -- what is kept of a file is what its table says
 abbrev pub Keeps : {S : Type 0} → Table S → Of
-Keeps table lo hi blocks filter = (table.foot ≡ foot_of lo hi blocks filter) × ((table.index ≡ places_from 0 blocks) × (table.filter ≡ filter))
+Keeps table lo hi blocks filter = (table.footer ≡ footer_of lo hi blocks filter) × ((table.index ≡ handles_from 0 blocks) × (table.filter ≡ filter))
 
--- the bytes of a table, over the interval and the filter of its foot
+-- the bytes of a table, over the interval and the filter of its footer
 stands : {S : Type 0} (told : S → Option (List ℕ)) (table : Table S) (bytes : List ℕ) (lo hi : ℕ) (entries : List Entry) (is : IsTable bytes lo hi entries)
-    → told table.file.file ≡ Some bytes → length bytes ≡ table.file.len → Keeps table lo hi is.blocks is.filter → Stands told table entries × (table.foot.lo ≡ lo) × (table.foot.hi ≡ hi)
+    → told table.file.file ≡ Some bytes → length bytes ≡ table.file.len → Keeps table lo hi is.blocks is.filter → Represents told table entries × (table.footer.lo ≡ lo) × (table.footer.hi ≡ hi)
 stands told table bytes lo hi entries is tells same keeps =
-    let from : table.foot.lo ≡ lo = ap (λ (f : Foot). f.lo) keeps.0 in
-    let to : table.foot.hi ≡ hi = ap (λ (f : Foot). f.hi) keeps.0 in
+    let from : table.footer.lo ≡ lo = ap (λ (f : Footer). f.lo) keeps.0 in
+    let to : table.footer.hi ≡ hi = ap (λ (f : Footer). f.hi) keeps.0 in
     let filter : table.filter ≡ is.filter = keeps.1.1 in
-    let parts : IsTableOf table.foot.lo table.foot.hi entries is.blocks table.filter =
-    subst (λ (n : ℕ). IsTableOf n table.foot.hi entries is.blocks table.filter) (sym from)
+    let parts : IsTableOf table.footer.lo table.footer.hi entries is.blocks table.filter =
+    subst (λ (n : ℕ). IsTableOf n table.footer.hi entries is.blocks table.filter) (sym from)
     (subst (λ (n : ℕ). IsTableOf lo n entries is.blocks table.filter) (sym to) (subst (λ (f : List ℕ). IsTableOf lo hi entries is.blocks f) (sym filter) is.parts)) in
-    let foot : table.foot ≡ foot_of table.foot.lo table.foot.hi is.blocks table.filter =
-    keeps.0 ∙ ap (λ (n : ℕ). foot_of n hi is.blocks is.filter) (sym from) ∙ ap (λ (n : ℕ). foot_of table.foot.lo n is.blocks is.filter) (sym to) in
-    let bytes_are : bytes ≡ numbered_frames (table_bodies table.foot.lo table.foot.hi is.blocks table.filter) =
+    let footer : table.footer ≡ footer_of table.footer.lo table.footer.hi is.blocks table.filter =
+    keeps.0 ∙ ap (λ (n : ℕ). footer_of n hi is.blocks is.filter) (sym from) ∙ ap (λ (n : ℕ). footer_of table.footer.lo n is.blocks is.filter) (sym to) in
+    let bytes_are : bytes ≡ numbered_frames (table_bodies table.footer.lo table.footer.hi is.blocks table.filter) =
     is.bytes_are
     ∙ ap (λ (n : ℕ). numbered_frames (table_bodies n hi is.blocks is.filter)) (sym from)
-    ∙ ap (λ (n : ℕ). numbered_frames (table_bodies table.foot.lo n is.blocks is.filter)) (sym to)
-    ∙ ap (λ (f : List ℕ). numbered_frames (table_bodies table.foot.lo table.foot.hi is.blocks f)) (sym filter) in (
+    ∙ ap (λ (n : ℕ). numbered_frames (table_bodies table.footer.lo n is.blocks is.filter)) (sym to)
+    ∙ ap (λ (f : List ℕ). numbered_frames (table_bodies table.footer.lo table.footer.hi is.blocks f)) (sym filter) in (
       record {
         blocks = is.blocks;
         parts = parts;
-        foot = foot;
+        footer = footer;
         index = keeps.1.0;
         len = sym same ∙ ap length bytes_are;
-        file = subst (λ (o : Option (List ℕ)). IfSome o (λ b. b ≡ numbered_frames (table_bodies table.foot.lo table.foot.hi is.blocks table.filter))) (sym tells) bytes_are;
+        file = subst (λ (o : Option (List ℕ)). IfSome o (λ b. b ≡ numbered_frames (table_bodies table.footer.lo table.footer.hi is.blocks table.filter))) (sym tells) bytes_are;
       },
       from,
       to,
@@ -127,13 +127,13 @@ stands told table bytes lo hi entries is tells same keeps =
 
 loads_known : {S : Type 0} (told : S → Option (List ℕ)) (file : S) (known : Option (List ℕ)) (table : Table S) (len : ℕ) → told file ≡ known
     → table.file.file ≡ file → table.file.len ≡ len → Knows known len (Keeps table) → Loaded told known len (Ok table)
-loads_known told file None table len tells place same knows = tt
-loads_known told file (Some bytes) table len tells place same knows = λ lo hi entries is long.
-    stands told table bytes lo hi entries is (ap told place ∙ tells) (long ∙ sym same) (knows lo hi entries is long)
+loads_known told file None table len tells handle same knows = tt
+loads_known told file (Some bytes) table len tells handle same knows = λ lo hi entries is long.
+    stands told table bytes lo hi entries is (ap told handle ∙ tells) (long ∙ sym same) (knows lo hi entries is long)
 
 pub loads : {S : Type 0} (told : S → Option (List ℕ)) (file : S) (table : Table S) (len : ℕ)
     → table.file.file ≡ file → table.file.len ≡ len → Knows (told file) len (Keeps table) → Loaded told (told file) len (Ok table)
-loads told file table len place same knows = loads_known told file (told file) table len refl place same knows
+loads told file table len handle same knows = loads_known told file (told file) table len refl handle same knows
 
 -- what is known of the file that was opened is known of the one that was given
 pub known_before : {S : Type 0} (told : S → Option (List ℕ)) (file : SealedFile S) (id : FileId) (given : S) (len : ℕ) (C : Of) → file ≡ record { id = id; file = given; len = len }

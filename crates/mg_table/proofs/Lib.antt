@@ -3,6 +3,7 @@ pub mod EntryLaws
 pub mod FilterLaws
 pub mod FindingLaws
 pub mod FinishLaws
+pub mod FrontLaws
 pub mod IndexLaws
 pub mod KnownLaws
 pub mod ListLaws
@@ -13,4 +14,7 @@ pub mod PayloadLaws
 pub mod PlaceLaws
 pub mod ReadingLaws
 pub mod RefusalLaws
+pub mod ScanLaws
+pub mod ScanningLaws
+pub mod WholeLaws
 pub mod WriterLaws

@@ -9,24 +9,24 @@ use Rattle.mg_block.proofs.Spelling.{pairs_of-block_of}
 use Rattle.mg_frame.specs.BigEndian.{big_endian}
 use Rattle.mg_frame.proofs.BigEndianLaws.{length-big_endian}
 use Rattle.mg_frame.proofs.SplitLaws.{one_number}
-use Rattle.mg_model.specs.declared.documents.Key.{Key}
+use Rattle.mg_types.specs.declared.keys.Key.{Key}
 use Rattle.mg_sealed.specs.Filling.{items_of}
 use Rattle.mg_sealed.specs.Lists.{FitFrames}
 use Rattle.mg_sealed.proofs.ListLaws.{one_list_of_frames, same_parts}
-use Rattle.mg_table.specs.Entries.{block_body, first_key, pair_of, payload_of, IsEntry}
-use Rattle.mg_table.specs.Foot.{counts_bytes, foot_bytes, places_bytes, IsFoot}
-use Rattle.mg_table.specs.Index.{frame_length, index_bytes, places_from, IsIndexFrom}
+use Rattle.mg_table.specs.Entries.{block_body, first_key, pair_of, payload_of}
+use Rattle.mg_types.specs.Items.{IsEntry}
+use Rattle.mg_table.specs.Footer.{counts_bytes, footer_bytes, offsets_bytes, IsFooter}
+use Rattle.mg_table.specs.Index.{frame_length, index_bytes, handles_from, IsIndexFrom}
 use Rattle.mg_table.specs.Lists.{OneTable}
 use Rattle.mg_table.specs.Payload.{judged_payload, numbers_of}
-use Rattle.mg_table.specs.Table.{foot_of, hashed_keys, table_bodies, IsTableOf}
-use Rattle.mg_table.specs.declared.entry.Entry.{Entry}
+use Rattle.mg_table.specs.Table.{footer_of, hashed_keys, table_bodies, IsTableOf}
+use Rattle.mg_types.specs.declared.items.Entry.{Entry}
 use Rattle.mg_table.specs.declared.entry.Payload.{Payload}
-use Rattle.mg_table.specs.declared.foot.Foot.{Foot}
-use Rattle.mg_table.proofs.FinishLaws.{length-foot_bytes}
-use Rattle.mg_table.proofs.IndexLaws.{length-index_bytes}
-use Rattle.mg_table.proofs.LoadingLaws.{filter_is_body, foot_of_is_foot, index_of_table, length-places_from, places_fit}
+use Rattle.mg_table.specs.declared.footer.Footer.{Footer}
+use Rattle.mg_table.proofs.FinishLaws.{length-footer_bytes}
+use Rattle.mg_table.proofs.LoadingLaws.{few_blocks, filter_is_body, footer_of_is_footer, index_of_table}
 use Rattle.mg_table.proofs.PayloadLaws.{payload-read}
-use Rattle.mg_table.proofs.PlaceLaws.{foot_parts}
+use Rattle.mg_table.proofs.PlaceLaws.{footer_parts}
 
 -- ---- the bodies of a table fit frames
 
@@ -34,7 +34,7 @@ use Rattle.mg_table.proofs.PlaceLaws.{foot_parts}
 Small : List ℕ → Type 0
 Small body = length body < 2 ^ 32
 
-small_blocks : (key : List ℕ) (at : ℕ) (blocks : List (List Entry)) (end : ℕ) → IsIndexFrom key at (places_from at blocks) end → All Small (map block_body blocks)
+small_blocks : (key : List ℕ) (at : ℕ) (blocks : List (List Entry)) (end : ℕ) → IsIndexFrom key at (handles_from at blocks) end → All Small (map block_body blocks)
 unfolding Small
 small_blocks key at [] end is = All-nil Small
 small_blocks key at (b ∷ blocks) end is =
@@ -44,17 +44,15 @@ fit_frames : (lo hi : ℕ) (entries : List Entry) (blocks : List (List Entry)) (
 unfolding Small
 fit_frames lo hi entries blocks filter parts =
     let before = map block_body blocks in
-    let index = index_bytes (places_from 0 blocks) in
-    let foot = foot_bytes (foot_of lo hi blocks filter) in
-    let places = index_of_table lo hi entries blocks filter parts in
-    let small : length index < 2 ^ 32 =
-    omega (arith, parts.few, length-index_bytes (places_from 0 blocks) (places_fit [] 0 (places_from 0 blocks) _ places), length-places_from 0 blocks) in
+    let index = index_bytes (handles_from 0 blocks) in
+    let footer = footer_bytes (footer_of lo hi blocks filter) in
+    let handles = index_of_table lo hi entries blocks filter parts in
     let small' : length filter < 2 ^ 32 = omega (arith, (filter_is_body (hashed_keys entries) filter parts.filtered).at_most) in
-    let small'' : length foot < 2 ^ 32 = omega (arith, length-foot_bytes (foot_of lo hi blocks filter)) in
+    let small'' : length footer < 2 ^ 32 = omega (arith, length-footer_bytes (footer_of lo hi blocks filter)) in
     record {
-      few = omega (arith, parts.few, length-append before (index ∷ filter ∷ foot ∷ []), length-map blocks block_body);
-      small = All-append Small before (index ∷ filter ∷ foot ∷ []) (small_blocks [] 0 blocks _ places)
-          (All-cons Small index (filter ∷ foot ∷ []) small (All-cons Small filter (foot ∷ []) small' (All-cons Small foot [] small'' (All-nil Small))));
+      few = omega (arith, few_blocks blocks parts.listed.few, length-append before (index ∷ filter ∷ footer ∷ []), length-map blocks block_body);
+      small = All-append Small before (index ∷ filter ∷ footer ∷ []) (small_blocks [] 0 blocks _ handles)
+          (All-cons Small index (filter ∷ footer ∷ []) parts.listed.few (All-cons Small filter (footer ∷ []) small' (All-cons Small footer [] small'' (All-nil Small))));
     }
 
 -- ---- blocks
@@ -102,27 +100,27 @@ same_entries (entry ∷ entries) (other ∷ others) each each' same =
 
 -- ---- the interval
 
-length-counts : (foot : Foot) → length (counts_bytes foot) ≡ 17
-length-counts foot =
+length-counts : (footer : Footer) → length (counts_bytes footer) ≡ 17
+length-counts footer =
     omega (
       arith,
-      length-append (big_endian 1 1 ++ big_endian 8 foot.entries) (big_endian 8 foot.sizes),
-      length-append (big_endian 1 1) (big_endian 8 foot.entries),
+      length-append (big_endian 1 1 ++ big_endian 8 footer.entries) (big_endian 8 footer.sizes),
+      length-append (big_endian 1 1) (big_endian 8 footer.entries),
       length-big_endian 1 1,
-      length-big_endian 8 foot.entries,
-      length-big_endian 8 foot.sizes,
+      length-big_endian 8 footer.entries,
+      length-big_endian 8 footer.sizes,
     )
 
 -- the interval stands behind the counts
-span_follows : (foot : Foot) → drop 17 (foot_bytes foot) ≡ big_endian 8 foot.lo ++ (big_endian 8 foot.hi ++ (places_bytes foot ++ []))
-span_follows foot =
-    ap (drop 17) (foot_parts foot) ∙ drop_at (counts_bytes foot) _ 17 (length-counts foot)
-    ∙ append_assoc (big_endian 8 foot.lo) (big_endian 8 foot.hi) (places_bytes foot ++ [])
+span_follows : (footer : Footer) → drop 17 (footer_bytes footer) ≡ big_endian 8 footer.lo ++ (big_endian 8 footer.hi ++ (offsets_bytes footer ++ []))
+span_follows footer =
+    ap (drop 17) (footer_parts footer) ∙ drop_at (counts_bytes footer) _ 17 (length-counts footer)
+    ∙ append_assoc (big_endian 8 footer.lo) (big_endian 8 footer.hi) (offsets_bytes footer ++ [])
 
-same_span : (foot other : Foot) → IsFoot foot → IsFoot other → foot_bytes foot ≡ foot_bytes other → (foot.lo ≡ other.lo) × (foot.hi ≡ other.hi)
-same_span foot other is is' same =
-    let low = one_number 8 foot.lo other.lo _ _ (omega (arith, is.lo)) (omega (arith, is'.lo)) (sym (span_follows foot) ∙ ap (drop 17) same ∙ span_follows other) in
-    let high = one_number 8 foot.hi other.hi _ _ (omega (arith, is.hi)) (omega (arith, is'.hi)) low.1 in
+same_span : (footer other : Footer) → IsFooter footer → IsFooter other → footer_bytes footer ≡ footer_bytes other → (footer.lo ≡ other.lo) × (footer.hi ≡ other.hi)
+same_span footer other is is' same =
+    let low = one_number 8 footer.lo other.lo _ _ (omega (arith, is.lo)) (omega (arith, is'.lo)) (sym (span_follows footer) ∙ ap (drop 17) same ∙ span_follows other) in
+    let high = one_number 8 footer.hi other.hi _ _ (omega (arith, is.hi)) (omega (arith, is'.hi)) low.1 in
     (low.0, high.0)
 
 -- ---- a table
@@ -135,8 +133,8 @@ one_table bytes lo hi entries lo' hi' others is is' =
     (fit_frames lo' hi' others is'.blocks is'.filter p') (sym is.bytes_are ∙ is'.bytes_are) in
     let parts = same_parts (map block_body is.blocks) (map block_body is'.blocks) _ _ refl frames in
     let tails = parts.1 in
-    let foot : foot_bytes (foot_of lo hi is.blocks is.filter) ≡ foot_bytes (foot_of lo' hi' is'.blocks is'.filter) = cc in
-    let span = same_span (foot_of lo hi is.blocks is.filter) (foot_of lo' hi' is'.blocks is'.filter) (foot_of_is_foot lo hi entries is.blocks is.filter p)
-    (foot_of_is_foot lo' hi' others is'.blocks is'.filter p') foot in
-    let pairs : map pair_of entries ≡ map pair_of others = ap (map pair_of) (sym p.whole) ∙ same_pairs is.blocks is'.blocks parts.0 ∙ ap (map pair_of) p'.whole in
-    (same_entries entries others p.rising.each p'.rising.each pairs, span.0, span.1)
+    let footer : footer_bytes (footer_of lo hi is.blocks is.filter) ≡ footer_bytes (footer_of lo' hi' is'.blocks is'.filter) = cc in
+    let span = same_span (footer_of lo hi is.blocks is.filter) (footer_of lo' hi' is'.blocks is'.filter) (footer_of_is_footer lo hi entries is.blocks is.filter p)
+    (footer_of_is_footer lo' hi' others is'.blocks is'.filter p') footer in
+    let pairs : map pair_of entries ≡ map pair_of others = ap (map pair_of) (sym p.listed.whole) ∙ same_pairs is.blocks is'.blocks parts.0 ∙ ap (map pair_of) p'.listed.whole in
+    (same_entries entries others p.listed.rising.each p'.listed.rising.each pairs, span.0, span.1)

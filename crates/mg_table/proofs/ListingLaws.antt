@@ -1,6 +1,6 @@
 -- What is listed of a block.
-use Rattle.std.proofs.Common.{◌≡◌, ℕ, ◌+◌, ◌<◌, ◌≤◌, Bool, true, false, List, [], ◌∷◌, ◌++◌, length, map, refl, sym, ap, subst, ◌∙◌, arith, append_assoc, Option, Result, Ok, Err, IfOk, IfSome, MatchBool, get_or, take}
-use Rattle.std.proofs.lemmas.List.{append-nil, length-append, length-drop, map-append, take_all, take_more}
+use Rattle.std.proofs.Common.{◌≡◌, ℕ, ◌<◌, ◌≤◌, Bool, true, false, List, [], ◌∷◌, ◌++◌, length, map, refl, sym, ap, subst, ◌∙◌, arith, append_assoc, Result, Ok, Err, IfOk, MatchBool}
+use Rattle.std.proofs.lemmas.List.{append-nil, length-append, length-drop, map-append}
 use Rattle.std.proofs.lemmas.List.Elements.{All-head, All-push}
 use Rattle.std.specs.List.{All}
 use Rattle.std.specs.Result.{result_or}
@@ -13,16 +13,11 @@ use Rattle.mg_block.proofs.Listing.{Listed, Listed-bound}
 use Rattle.mg_block.proofs.Order.{Extends-from_Precedes}
 use Rattle.mg_block.proofs.Spelling.{last_pair_after-push, pair_is, RiseAfter-last}
 use Rattle.mg_block.specs.Block.{Begins}
-use Rattle.mg_model.specs.Bytes.{IsKey}
-use Rattle.mg_table.specs.Entries.{pair_of, payload_of, IsEntry}
-use Rattle.mg_table.specs.declared.entry.Entry.{Entry}
-use Rattle.mg_table.specs.Reading.{AreRead}
-use Rattle.mg_table.specs.Table.{Stands}
-use Rattle.mg_table.specs.declared.table.Table.{Table}
-use Rattle.mg_sealed.proofs.FilledLaws.{items_of-push}
-use Rattle.mg_table.proofs.LoadingLaws.{length-places_from}
+use Rattle.mg_types.specs.Bytes.{IsKey}
+use Rattle.mg_table.specs.Entries.{pair_of, payload_of}
+use Rattle.mg_types.specs.Items.{IsEntry}
+use Rattle.mg_types.specs.declared.items.Entry.{Entry}
 use Rattle.mg_table.proofs.ReadingLaws.{All-behind}
-use Rattle.mg_sealed.specs.Filling.{items_of}
 
 -- a front of these entries was read and listed behind others
 pub record ListsFront (entries : List Entry) (read : List Pair) (before now : List Entry) : Type 0 where
@@ -156,25 +151,3 @@ pub reads-fewer : (block : List ℕ) (old new : Reading) → Listed block old ol
 reads-fewer block old new listed a =
     let bound = Listed-bound block new new.read (read-more block old new listed a) in
     (omega (arith, ap length a.read, length-append old.read (a.pair ∷ [])), bound)
-
--- ---- all blocks
-
--- the blocks before this number are listed, and the count of faults has not fallen
-pub record ScansTo {S : Type 0} (told : S → Option (List ℕ)) (table : Table S) (before now number : ℕ) (entries : List Entry) : Type 0 where
-  pub later : before ≤ now
-  pub listed : IfSome (told table.file.file) (λ _. (all : List Entry) → (stands : Stands told table all) → entries ≡ items_of (take number stands.blocks))
-  pub read : IfSome (told table.file.file) (λ bytes. table.file.len ≡ length bytes → (blocks : List (List Entry))
-      × AreRead table.file.id bytes 0 (take number table.index) blocks × (entries ≡ items_of blocks))
-
--- one block more
-pub scanned-more : (blocks : List (List Entry)) (number : ℕ) (entries more : List Entry) → number < length blocks → entries ≡ items_of (take number blocks)
-    → more ≡ entries ++ get_or blocks number [] → more ≡ items_of (take (number + 1) blocks)
-scanned-more blocks number entries more within listed is =
-    is ∙ ap (λ es. es ++ get_or blocks number []) listed
-    ∙ sym (ap items_of (take_more blocks number [] within) ∙ items_of-push (take number blocks) (get_or blocks number []))
-
-pub scanned-all : {S : Type 0} (told : S → Option (List ℕ)) (table : Table S) (all : List Entry) (stands : Stands told table all) (number : ℕ) (entries : List Entry)
-    → length table.index ≤ number → entries ≡ items_of (take number stands.blocks) → all ≡ entries
-scanned-all told table all stands number entries past listed =
-    let whole : take number stands.blocks ≡ stands.blocks = take_all number stands.blocks (omega (arith, ap length stands.index, length-places_from 0 stands.blocks)) in
-    sym (listed ∙ ap items_of whole ∙ stands.parts.whole)

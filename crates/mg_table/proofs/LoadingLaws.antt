@@ -1,4 +1,4 @@
--- The foot, the index and the filter of a table are those that a loader asks for.
+-- The footer, the index and the filter of a table are those that a loader asks for.
 use Rattle.std.proofs.Common.{◌≡◌, ◌≢◌, ℕ, ◌+◌, ◌-◌, ◌*◌, ◌/◌, ◌<◌, ◌≤◌, ◌^◌, ◌⊎◌, suc, List, [], ◌∷◌, ◌++◌, length, map, take, drop, refl, sym, ap, ◌∙◌, subst, inl, inr, arith, append_assoc, Ok}
 use Rattle.std.proofs.Math.Nat.{mod-eq_of_lt}
 use Rattle.std.proofs.lemmas.List.{length-append, length-map, drop_at, take_all}
@@ -15,24 +15,25 @@ use Rattle.mg_frame.specs.Frame.{frame}
 use Rattle.mg_frame.specs.Frames.{numbered_frames}
 use Rattle.mg_frame.proofs.BigEndianLaws.{length-big_endian, big_endian_value-big_endian}
 use Rattle.mg_frame.proofs.FrameLaws.{length-frame}
-use Rattle.mg_model.specs.declared.faults.FileId.{FileId}
+use Rattle.mg_types.specs.declared.names.FileId.{FileId}
 use Rattle.mg_sealed.specs.Filling.{Fits, AreFilled, items_of}
-use Rattle.mg_sealed.specs.Foot.{foot_body, said_blocks}
+use Rattle.mg_sealed.specs.Footer.{footer_body, said_blocks}
 use Rattle.mg_sealed.specs.Reading.{frame_body}
-use Rattle.mg_sealed.proofs.FootLaws.{written_foot_is_read}
+use Rattle.mg_sealed.proofs.FooterLaws.{written_footer_is_read}
 use Rattle.mg_sealed.proofs.WritingLaws.{numbered-more}
 use Rattle.mg_sealed.proofs.WrittenLaws.{written_frame_is_read}
-use Rattle.mg_table.specs.Entries.{block_body, pair_of, IsEntry}
+use Rattle.mg_table.specs.Entries.{block_body, pair_of}
+use Rattle.mg_types.specs.Items.{IsEntry}
 use Rattle.mg_table.specs.Filters.{IsFilterOf}
-use Rattle.mg_table.specs.Foot.{counts_bytes, foot_bytes, span_bytes, IsFoot}
-use Rattle.mg_table.specs.Index.{frame_length, index_bytes, places_from, IsIndexFrom, IsPlace}
-use Rattle.mg_table.specs.Table.{foot_of, hashed_keys, sizes_of, table_bodies, IsTableOf}
-use Rattle.mg_table.specs.declared.entry.Entry.{Entry}
-use Rattle.mg_table.specs.declared.foot.Foot.{Foot}
-use Rattle.mg_table.specs.declared.index.BlockPlace.{BlockPlace}
+use Rattle.mg_table.specs.Footer.{counts_bytes, footer_bytes, span_bytes, IsFooter}
+use Rattle.mg_table.specs.Index.{frame_length, index_bytes, handles_from, IsIndexFrom, IsHandle}
+use Rattle.mg_table.specs.Table.{footer_of, hashed_keys, sizes_of, table_bodies, IsTableOf}
+use Rattle.mg_types.specs.declared.items.Entry.{Entry}
+use Rattle.mg_table.specs.declared.footer.Footer.{Footer}
+use Rattle.mg_table.specs.declared.index.BlockHandle.{BlockHandle}
 use Rattle.mg_table.proofs.EntryLaws.{length-payload_of, one-fits}
-use Rattle.mg_table.proofs.FinishLaws.{length-foot_bytes}
-use Rattle.mg_table.proofs.IndexLaws.{length-frames, length-index_bytes, total}
+use Rattle.mg_table.proofs.FinishLaws.{length-footer_bytes}
+use Rattle.mg_table.proofs.IndexLaws.{length-frames, least-index_bytes, total}
 
 -- ---- entries that rise
 
@@ -109,25 +110,29 @@ sizes_in_count [] each = omega arith
 sizes_in_count (entry ∷ entries) each =
     omega (
       arith,
-      (All-head IsEntry entry entries each).size_to,
+      (All-head IsEntry entry entries each).1.1,
       sum_by-cons (λ (e : Entry). e.size) entry entries,
       sizes_in_count entries (All-tail IsEntry entry entries each),
     )
 
 -- ---- the index
 
-pub length-places_from : (at : ℕ) (blocks : List (List Entry)) → length (places_from at blocks) ≡ length blocks
-length-places_from at [] = refl
-length-places_from at (b ∷ blocks) = ap suc (length-places_from (at + frame_length b) blocks)
+pub length-handles_from : (at : ℕ) (blocks : List (List Entry)) → length (handles_from at blocks) ≡ length blocks
+length-handles_from at [] = refl
+length-handles_from at (b ∷ blocks) = ap suc (length-handles_from (at + frame_length b) blocks)
+
+-- an index that has room in a frame is that of few blocks
+pub few_blocks : (blocks : List (List Entry)) → length (index_bytes (handles_from 0 blocks)) < 2 ^ 32 → 13 * length blocks < 2 ^ 32
+few_blocks blocks few = omega (arith, few, least-index_bytes (handles_from 0 blocks), length-handles_from 0 blocks)
 
 index_is : (key previous : List ℕ) (at : ℕ) (blocks : List (List Entry)) → IsUpTo key previous → AreFilled block_body blocks → RiseAfter previous (map pair_of (items_of blocks))
-    → at + 4116 * length blocks < 2 ^ 62 → IsIndexFrom key at (places_from at blocks) (at + total blocks)
+    → at + 4116 * length blocks < 2 ^ 62 → IsIndexFrom key at (handles_from at blocks) (at + total blocks)
 index_is key previous at [] up filled rise room = omega arith
 index_is key previous at ([] ∷ blocks) up filled rise room = absurd (filled.0.some refl)
 index_is key previous at ((x ∷ b) ∷ blocks) up filled rise room =
     let small = most_bytes previous (x ∷ b) (rise_front previous (x ∷ b) (items_of blocks) rise) filled.0 in
     let later = at + frame_length (x ∷ b) in
-    let rest : IsIndexFrom x.key later (places_from later blocks) (later + total blocks) =
+    let rest : IsIndexFrom x.key later (handles_from later blocks) (later + total blocks) =
     index_is x.key (last_key x.key b) later blocks (last_above x.key b (rise_front x.key b (items_of blocks) rise.1)) filled.2
     (rise_behind x.key b (items_of blocks) rise.1) (omega (arith, small, room)) in
     let ends : later + total blocks ≡ at + total ((x ∷ b) ∷ blocks) = omega arith in (
@@ -136,38 +141,29 @@ index_is key previous at ((x ∷ b) ∷ blocks) up filled rise room =
       refl,
       omega (arith, room),
       omega (arith, small),
-      subst (λ end. IsIndexFrom x.key later (places_from later blocks) end) ends rest,
+      subst (λ end. IsIndexFrom x.key later (handles_from later blocks) end) ends rest,
     )
 
--- each item of an index is a place
-pub places_fit : (key : List ℕ) (at : ℕ) (places : List BlockPlace) (end : ℕ) → IsIndexFrom key at places end → All IsPlace places
-places_fit key at [] end is = All-nil IsPlace
-places_fit key at (place ∷ places) end is =
-    All-cons IsPlace place places (record { key = is.1; at = omega (arith, is.2, is.3) }) (places_fit place.key (at + place.len) places end is.5)
+-- each item of an index is a handle
+pub places_fit : (key : List ℕ) (at : ℕ) (handles : List BlockHandle) (end : ℕ) → IsIndexFrom key at handles end → All IsHandle handles
+places_fit key at [] end is = All-nil IsHandle
+places_fit key at (handle ∷ handles) end is =
+    All-cons IsHandle handle handles (record { key = is.1; at = omega (arith, is.2, is.3) }) (places_fit handle.key (at + handle.len) handles end is.5)
 
 -- ---- a table
 
 rises : (lo hi : ℕ) (entries : List Entry) (blocks : List (List Entry)) (filter : List ℕ) → IsTableOf lo hi entries blocks filter → RiseAfter [] (map pair_of (items_of blocks))
-rises lo hi entries blocks filter parts = subst (λ (es : List Entry). RiseAfter [] (map pair_of es)) (sym parts.whole) parts.rising.rising
+rises lo hi entries blocks filter parts = subst (λ (es : List Entry). RiseAfter [] (map pair_of es)) (sym parts.listed.whole) parts.listed.rising.rising
 
 pub frames_end : (lo hi : ℕ) (entries : List Entry) (blocks : List (List Entry)) (filter : List ℕ) → IsTableOf lo hi entries blocks filter → total blocks ≤ 4116 * length blocks
-frames_end lo hi entries blocks filter parts = most_in_frames [] blocks parts.filled (rises lo hi entries blocks filter parts)
+frames_end lo hi entries blocks filter parts = most_in_frames [] blocks parts.listed.filled (rises lo hi entries blocks filter parts)
 
 pub index_of_table : (lo hi : ℕ) (entries : List Entry) (blocks : List (List Entry)) (filter : List ℕ) → IsTableOf lo hi entries blocks filter
-    → IsIndexFrom [] 0 (places_from 0 blocks) (foot_of lo hi blocks filter).index_at
+    → IsIndexFrom [] 0 (handles_from 0 blocks) (footer_of lo hi blocks filter).index_at
 index_of_table lo hi entries blocks filter parts =
     let ends : 0 + total blocks ≡ length (numbered_frames (map block_body blocks)) = omega (arith, length-frames blocks) in
-    subst (λ end. IsIndexFrom [] 0 (places_from 0 blocks) end) ends
-    (index_is [] [] 0 blocks (inl refl) parts.filled (rises lo hi entries blocks filter parts) (omega (arith, parts.few)))
-
-index_small : (lo hi : ℕ) (entries : List Entry) (blocks : List (List Entry)) (filter : List ℕ) → IsTableOf lo hi entries blocks filter
-    → length (index_bytes (places_from 0 blocks)) ≤ 263 * length blocks
-index_small lo hi entries blocks filter parts =
-    omega (
-      arith,
-      length-index_bytes (places_from 0 blocks) (places_fit [] 0 (places_from 0 blocks) _ (index_of_table lo hi entries blocks filter parts)),
-      length-places_from 0 blocks,
-    )
+    subst (λ end. IsIndexFrom [] 0 (handles_from 0 blocks) end) ends
+    (index_is [] [] 0 blocks (inl refl) parts.listed.filled (rises lo hi entries blocks filter parts) (omega (arith, few_blocks blocks parts.listed.few)))
 
 pub filter_is_body : (hashed : List (List ℕ)) (filter : List ℕ) → IsFilterOf hashed filter → IsBodyLength (length filter)
 filter_is_body hashed filter is =
@@ -182,56 +178,56 @@ some_in_blocks (b ∷ blocks) some = (omega arith, some_items (b ++ items_of blo
     some_items [] none = absurd (none refl)
     some_items (x ∷ entries) more = omega arith
 
-pub foot_of_is_foot : (lo hi : ℕ) (entries : List Entry) (blocks : List (List Entry)) (filter : List ℕ) → IsTableOf lo hi entries blocks filter → IsFoot (foot_of lo hi blocks filter)
-foot_of_is_foot lo hi entries blocks filter parts =
+pub footer_of_is_footer : (lo hi : ℕ) (entries : List Entry) (blocks : List (List Entry)) (filter : List ℕ) → IsTableOf lo hi entries blocks filter → IsFooter (footer_of lo hi blocks filter)
+footer_of_is_footer lo hi entries blocks filter parts =
     let rise = rises lo hi entries blocks filter parts in
-    let few = parts.few in
-    let most = most_entries [] blocks parts.filled rise in
+    let few = few_blocks blocks parts.listed.few in
+    let most = most_entries [] blocks parts.listed.filled rise in
     let ends = frames_end lo hi entries blocks filter parts in
-    let some = some_in_blocks blocks (λ none. parts.some (sym parts.whole ∙ none)) in
+    let some = some_in_blocks blocks (λ none. parts.listed.some (sym parts.listed.whole ∙ none)) in
     record {
       entries = omega (arith, most, few);
-      sizes = omega (arith, most, few, sizes_in_count (items_of blocks) (subst (λ (es : List Entry). All IsEntry es) (sym parts.whole) parts.rising.each));
-      lo = parts.from;
-      hi = parts.to;
+      sizes = omega (arith, most, few, sizes_in_count (items_of blocks) (subst (λ (es : List Entry). All IsEntry es) (sym parts.listed.whole) parts.listed.rising.each));
+      lo = parts.listed.from;
+      hi = parts.listed.to;
       index_at = omega (arith, ends, few, length-frames blocks);
-      filter_at = omega (arith, ends, few, length-frames blocks, index_small lo hi entries blocks filter parts);
+      filter_at = omega (arith, ends, few, length-frames blocks, parts.listed.few);
       blocks = omega (arith, few);
       some_entries = some.1;
       some_blocks = some.0;
     }
 
--- a foot says its number of blocks
-pub said_blocks-foot : (foot : Foot) → foot.blocks < 2 ^ 32 → said_blocks (foot_bytes foot) ≡ foot.blocks
-unfolding said_blocks foot_bytes
-said_blocks-foot foot fits =
-    let counts = counts_bytes foot ++ span_bytes foot in
-    let places = big_endian 8 foot.index_at ++ big_endian 8 foot.filter_at in
-    let front = counts ++ places in
-    let blocks = big_endian 4 foot.blocks in
-    let four = length-big_endian 4 foot.blocks in
-    let split : counts ++ (places ++ blocks) ≡ front ++ blocks = sym (append_assoc counts places blocks) in
+-- a footer says its number of blocks
+pub said_blocks-footer : (footer : Footer) → footer.blocks < 2 ^ 32 → said_blocks (footer_bytes footer) ≡ footer.blocks
+unfolding said_blocks footer_bytes
+said_blocks-footer footer fits =
+    let counts = counts_bytes footer ++ span_bytes footer in
+    let handles = big_endian 8 footer.index_at ++ big_endian 8 footer.filter_at in
+    let front = counts ++ handles in
+    let blocks = big_endian 4 footer.blocks in
+    let four = length-big_endian 4 footer.blocks in
+    let split : counts ++ (handles ++ blocks) ≡ front ++ blocks = sym (append_assoc counts handles blocks) in
     let at : length (front ++ blocks) - 4 ≡ length front = omega (arith, length-append front blocks, four) in
     let tail : drop (length (front ++ blocks) - 4) (front ++ blocks) ≡ blocks = ap (λ n. drop n (front ++ blocks)) at ∙ drop_at front blocks (length front) refl in
     ap (λ (bytes : List ℕ). big_endian_value (take 4 (drop (length bytes - 4) bytes))) split
     ∙ ap big_endian_value (ap (take 4) tail ∙ take_all 4 blocks (omega (arith, four)))
-    ∙ big_endian_value-big_endian 4 foot.blocks
+    ∙ big_endian_value-big_endian 4 footer.blocks
     ∙ mod-eq_of_lt fits
 
 -- ---- what stands before each frame
 
 before_filter : List (List Entry) → List (List ℕ)
-before_filter blocks = map block_body blocks ++ index_bytes (places_from 0 blocks) ∷ []
+before_filter blocks = map block_body blocks ++ index_bytes (handles_from 0 blocks) ∷ []
 
 count_before_filter : (blocks : List (List Entry)) → length (before_filter blocks) ≡ length blocks + 1
 unfolding before_filter
-count_before_filter blocks = omega (arith, length-append (map block_body blocks) (index_bytes (places_from 0 blocks) ∷ []), length-map blocks block_body)
+count_before_filter blocks = omega (arith, length-append (map block_body blocks) (index_bytes (handles_from 0 blocks) ∷ []), length-map blocks block_body)
 
-len_before_filter : (lo hi : ℕ) (blocks : List (List Entry)) (filter : List ℕ) → length (numbered_frames (before_filter blocks)) ≡ (foot_of lo hi blocks filter).filter_at
+len_before_filter : (lo hi : ℕ) (blocks : List (List Entry)) (filter : List ℕ) → length (numbered_frames (before_filter blocks)) ≡ (footer_of lo hi blocks filter).filter_at
 unfolding before_filter
 len_before_filter lo hi blocks filter =
     let before = map block_body blocks in
-    let index = index_bytes (places_from 0 blocks) in
+    let index = index_bytes (handles_from 0 blocks) in
     omega (
       arith,
       ap length (numbered-more before index),
@@ -240,65 +236,64 @@ len_before_filter lo hi blocks filter =
     )
 
 bodies_filter : (lo hi : ℕ) (blocks : List (List Entry)) (filter : List ℕ)
-    → table_bodies lo hi blocks filter ≡ before_filter blocks ++ filter ∷ foot_bytes (foot_of lo hi blocks filter) ∷ []
+    → table_bodies lo hi blocks filter ≡ before_filter blocks ++ filter ∷ footer_bytes (footer_of lo hi blocks filter) ∷ []
 unfolding before_filter
 bodies_filter lo hi blocks filter =
-    sym (append_assoc (map block_body blocks) (index_bytes (places_from 0 blocks) ∷ []) (filter ∷ foot_bytes (foot_of lo hi blocks filter) ∷ []))
+    sym (append_assoc (map block_body blocks) (index_bytes (handles_from 0 blocks) ∷ []) (filter ∷ footer_bytes (footer_of lo hi blocks filter) ∷ []))
 
-bodies_foot : (lo hi : ℕ) (blocks : List (List Entry)) (filter : List ℕ)
-    → table_bodies lo hi blocks filter ≡ (before_filter blocks ++ filter ∷ []) ++ foot_bytes (foot_of lo hi blocks filter) ∷ []
-bodies_foot lo hi blocks filter =
-    bodies_filter lo hi blocks filter ∙ sym (append_assoc (before_filter blocks) (filter ∷ []) (foot_bytes (foot_of lo hi blocks filter) ∷ []))
+bodies_footer : (lo hi : ℕ) (blocks : List (List Entry)) (filter : List ℕ)
+    → table_bodies lo hi blocks filter ≡ (before_filter blocks ++ filter ∷ []) ++ footer_bytes (footer_of lo hi blocks filter) ∷ []
+bodies_footer lo hi blocks filter =
+    bodies_filter lo hi blocks filter ∙ sym (append_assoc (before_filter blocks) (filter ∷ []) (footer_bytes (footer_of lo hi blocks filter) ∷ []))
 
 -- the index
 pub reads_index : (id : FileId) (lo hi : ℕ) (entries : List Entry) (blocks : List (List Entry)) (filter : List ℕ) → IsTableOf lo hi entries blocks filter
-    → frame_body id (numbered_frames (table_bodies lo hi blocks filter)) (foot_of lo hi blocks filter).index_at (length blocks) ≡ Ok (index_bytes (places_from 0 blocks))
+    → frame_body id (numbered_frames (table_bodies lo hi blocks filter)) (footer_of lo hi blocks filter).index_at (length blocks) ≡ Ok (index_bytes (handles_from 0 blocks))
 reads_index id lo hi entries blocks filter parts =
     let before = map block_body blocks in
-    let index = index_bytes (places_from 0 blocks) in
+    let index = index_bytes (handles_from 0 blocks) in
     let many : length before ≡ length blocks = length-map blocks block_body in
-    let small = index_small lo hi entries blocks filter parts in
     ap (λ (n : ℕ). frame_body id (numbered_frames (table_bodies lo hi blocks filter)) (length (numbered_frames before)) n) (sym many)
-    ∙ written_frame_is_read id before (filter ∷ foot_bytes (foot_of lo hi blocks filter) ∷ []) index (omega (arith, parts.few, many)) (omega (arith, parts.few, small))
+    ∙ written_frame_is_read id before (filter ∷ footer_bytes (footer_of lo hi blocks filter) ∷ []) index (omega (arith, few_blocks blocks parts.listed.few, many)) parts.listed.few
 
 -- the filter
 pub reads_filter : (id : FileId) (lo hi : ℕ) (entries : List Entry) (blocks : List (List Entry)) (filter : List ℕ) → IsTableOf lo hi entries blocks filter
-    → frame_body id (numbered_frames (table_bodies lo hi blocks filter)) (foot_of lo hi blocks filter).filter_at (length blocks + 1) ≡ Ok filter
+    → frame_body id (numbered_frames (table_bodies lo hi blocks filter)) (footer_of lo hi blocks filter).filter_at (length blocks + 1) ≡ Ok filter
 reads_filter id lo hi entries blocks filter parts =
     let before = before_filter blocks in
-    let foot = foot_bytes (foot_of lo hi blocks filter) in
+    let footer = footer_bytes (footer_of lo hi blocks filter) in
     let many = count_before_filter blocks in
-    ap (λ (bs : List (List ℕ)). frame_body id (numbered_frames bs) (foot_of lo hi blocks filter).filter_at (length blocks + 1)) (bodies_filter lo hi blocks filter)
-    ∙ ap (λ (at : ℕ). frame_body id (numbered_frames (before ++ filter ∷ foot ∷ [])) at (length blocks + 1)) (sym (len_before_filter lo hi blocks filter))
-    ∙ ap (λ (n : ℕ). frame_body id (numbered_frames (before ++ filter ∷ foot ∷ [])) (length (numbered_frames before)) n) (sym many)
-    ∙ written_frame_is_read id before (foot ∷ []) filter (omega (arith, parts.few, many)) (omega (arith, (filter_is_body (hashed_keys entries) filter parts.filtered).at_most))
+    ap (λ (bs : List (List ℕ)). frame_body id (numbered_frames bs) (footer_of lo hi blocks filter).filter_at (length blocks + 1)) (bodies_filter lo hi blocks filter)
+    ∙ ap (λ (at : ℕ). frame_body id (numbered_frames (before ++ filter ∷ footer ∷ [])) at (length blocks + 1)) (sym (len_before_filter lo hi blocks filter))
+    ∙ ap (λ (n : ℕ). frame_body id (numbered_frames (before ++ filter ∷ footer ∷ [])) (length (numbered_frames before)) n) (sym many)
+    ∙ written_frame_is_read id before (footer ∷ []) filter (omega (arith, few_blocks blocks parts.listed.few, many)) (omega (arith, (filter_is_body (hashed_keys entries) filter parts.filtered).at_most))
 
--- the foot
-pub reads_foot : (id : FileId) (lo hi : ℕ) (entries : List Entry) (blocks : List (List Entry)) (filter : List ℕ) → IsTableOf lo hi entries blocks filter
-    → foot_body id (numbered_frames (table_bodies lo hi blocks filter)) 73 2 ≡ Ok (foot_bytes (foot_of lo hi blocks filter))
-reads_foot id lo hi entries blocks filter parts =
+-- the footer
+pub reads_footer : (id : FileId) (lo hi : ℕ) (entries : List Entry) (blocks : List (List Entry)) (filter : List ℕ) → IsTableOf lo hi entries blocks filter
+    → footer_body id (numbered_frames (table_bodies lo hi blocks filter)) 73 2 ≡ Ok (footer_bytes (footer_of lo hi blocks filter))
+reads_footer id lo hi entries blocks filter parts =
     let before = before_filter blocks ++ filter ∷ [] in
-    let foot = foot_bytes (foot_of lo hi blocks filter) in
-    let is_foot = foot_of_is_foot lo hi entries blocks filter parts in
-    let size : 73 ≡ length foot + 20 = omega (arith, length-foot_bytes (foot_of lo hi blocks filter)) in
+    let footer = footer_bytes (footer_of lo hi blocks filter) in
+    let is_footer = footer_of_is_footer lo hi entries blocks filter parts in
+    let size : 73 ≡ length footer + 20 = omega (arith, length-footer_bytes (footer_of lo hi blocks filter)) in
     let count : length before ≡ length blocks + 2 = omega (arith, length-append (before_filter blocks) (filter ∷ []), count_before_filter blocks) in
-    let many : length before ≡ said_blocks foot + 2 = omega (arith, count, said_blocks-foot (foot_of lo hi blocks filter) is_foot.blocks) in
-    ap (λ (bs : List (List ℕ)). foot_body id (numbered_frames bs) 73 2) (bodies_foot lo hi blocks filter)
-    ∙ ap (λ (n : ℕ). foot_body id (numbered_frames (before ++ foot ∷ [])) n 2) size
-    ∙ written_foot_is_read id before foot 2 (omega (arith, parts.few, count)) (omega (arith, length-foot_bytes (foot_of lo hi blocks filter))) many
+    let many : length before ≡ said_blocks footer + 2 = omega (arith, count, said_blocks-footer (footer_of lo hi blocks filter) is_footer.blocks) in
+    ap (λ (bs : List (List ℕ)). footer_body id (numbered_frames bs) 73 2) (bodies_footer lo hi blocks filter)
+    ∙ ap (λ (n : ℕ). footer_body id (numbered_frames (before ++ footer ∷ [])) n 2) size
+    ∙ written_footer_is_read id before footer 2 (omega (arith, few_blocks blocks parts.listed.few, count)) (omega (arith, length-footer_bytes (footer_of lo hi blocks filter))) many
 
 -- the length of a table's file
 pub file_ends : (lo hi : ℕ) (blocks : List (List Entry)) (filter : List ℕ)
-    → length (numbered_frames (table_bodies lo hi blocks filter)) ≡ (foot_of lo hi blocks filter).filter_at + (length filter + 20) + 73
+    → length (numbered_frames (table_bodies lo hi blocks filter)) ≡ (footer_of lo hi blocks filter).filter_at + (length filter + 20) + 73
 file_ends lo hi blocks filter =
     let before = before_filter blocks in
-    let foot = foot_bytes (foot_of lo hi blocks filter) in
-    ap length (ap numbered_frames (bodies_foot lo hi blocks filter) ∙ numbered-more (before ++ filter ∷ []) foot)
-    ∙ length-append (numbered_frames (before ++ filter ∷ [])) (frame (length (before ++ filter ∷ [])) foot)
+    let footer = footer_bytes (footer_of lo hi blocks filter) in
+    ap length (ap numbered_frames (bodies_footer lo hi blocks filter) ∙ numbered-more (before ++ filter ∷ []) footer)
+    ∙ length-append (numbered_frames (before ++ filter ∷ [])) (frame (length (before ++ filter ∷ [])) footer)
     ∙ omega (
       arith,
-      length-frame (length (before ++ filter ∷ [])) foot,
-      length-foot_bytes (foot_of lo hi blocks filter),
+      length-frame (length (before ++ filter ∷ [])) footer,
+      length-footer_bytes (footer_of lo hi blocks filter),
       ap length (numbered-more before filter),
       length-append (numbered_frames before) (frame (length before) filter),
       length-frame (length before) filter,

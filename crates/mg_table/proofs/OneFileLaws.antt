@@ -1,11 +1,11 @@
 -- A list of entries over an interval has one table.
 use Rattle.std.proofs.Common.{◌≡◌, ℕ, ◌+◌, List, [], ◌∷◌, ◌++◌, length, map, refl, sym, ap, ◌∙◌, subst, arith}
 use Rattle.std.proofs.lemmas.List.{drop_at, length-append, map-append, take_at}
-use Rattle.std.specs.List.{concat, enumerate_from}
+use Rattle.std.specs.List.{enumerate_from}
 use Rattle.mg_block.specs.Block.{block_of, items_after}
 use Rattle.mg_block.specs.View.{last_pair_after}
 use Rattle.mg_block.proofs.Spelling.{items_after-append, pair_from}
-use Rattle.mg_bloom.proofs.OneFilter.{one_filter}
+use Rattle.mg_table.proofs.FilterLaws.{same_filter}
 use Rattle.mg_frame.specs.BigEndian.{AreBytes, big_endian}
 use Rattle.mg_frame.specs.Frame.{covered, digest, frame}
 use Rattle.mg_frame.specs.Frames.{frames, numbered_frames}
@@ -14,12 +14,11 @@ use Rattle.mg_sealed.specs.Filling.{Grows}
 use Rattle.mg_sealed.proofs.FillingLaws.{one_filling}
 use Rattle.mg_sealed.proofs.WritingLaws.{frames_from-append}
 use Rattle.mg_table.specs.Entries.{block_body, pair_of}
-use Rattle.mg_table.specs.Filters.{IsFilterOf}
-use Rattle.mg_table.specs.Foot.{foot_bytes}
-use Rattle.mg_table.specs.Index.{index_bytes, places_from}
+use Rattle.mg_table.specs.Footer.{footer_bytes}
+use Rattle.mg_table.specs.Index.{index_bytes, handles_from}
 use Rattle.mg_table.specs.Lists.{OneFileOfTable}
-use Rattle.mg_table.specs.Table.{foot_of, hashed_keys, table_bodies}
-use Rattle.mg_table.specs.declared.entry.Entry.{Entry}
+use Rattle.mg_table.specs.Table.{footer_of, hashed_keys, table_bodies}
+use Rattle.mg_types.specs.declared.items.Entry.{Entry}
 
 -- ---- the bytes of a body among frames
 
@@ -46,18 +45,11 @@ bytes_in_filter : (lo hi : ℕ) (blocks : List (List Entry)) (filter : List ℕ)
 unfolding numbered_frames
 bytes_in_filter lo hi blocks filter small =
     let before = map block_body blocks in
-    let index = index_bytes (places_from 0 blocks) in
-    let foot = foot_bytes (foot_of lo hi blocks filter) in
-    let ends = index ∷ filter ∷ foot ∷ [] in
-    bytes_in_second (0 + length before) index filter (foot ∷ [])
+    let index = index_bytes (handles_from 0 blocks) in
+    let footer = footer_bytes (footer_of lo hi blocks filter) in
+    let ends = index ∷ filter ∷ footer ∷ [] in
+    bytes_in_second (0 + length before) index filter (footer ∷ [])
     (bytes_behind (frames (enumerate_from 0 before)) (frames (enumerate_from (0 + length before) ends)) (subst AreBytes (frames_from-append 0 before ends) small))
-
--- ---- a filter
-
--- keys have one filter
-same_filter : (hashed : List (List ℕ)) (filter other : List ℕ) → AreBytes filter → AreBytes other → IsFilterOf hashed filter → IsFilterOf hashed other → filter ≡ other
-unfolding AreBytes
-same_filter hashed filter other small small' is is' = one_filter (length hashed) (concat hashed) filter other small small' is.size is'.size is.bits is'.bits
 
 -- ---- a table
 
@@ -73,7 +65,7 @@ pub one_file_of_table : OneFileOfTable
 one_file_of_table bytes others lo hi entries small small' is is' =
     let p = is.parts in
     let p' = is'.parts in
-    let blocks = one_filling Entry block_body is.blocks is'.blocks grows p.filled p'.filled (p.whole ∙ sym p'.whole) in
+    let blocks = one_filling Entry block_body is.blocks is'.blocks grows p.listed.filled p'.listed.filled (p.listed.whole ∙ sym p'.listed.whole) in
     let filter = same_filter (hashed_keys entries) is.filter is'.filter (bytes_in_filter lo hi is.blocks is.filter (subst AreBytes is.bytes_are small))
     (bytes_in_filter lo hi is'.blocks is'.filter (subst AreBytes is'.bytes_are small')) p.filtered p'.filtered in
     is.bytes_are

@@ -5,9 +5,10 @@ use Rattle.std.proofs.lemmas.Bool.{lt-ltb, le-ltb, ltb-true, ltb-false, eq-eqb, 
 use Rattle.std.proofs.lemmas.List.{append-nil, drop_at, take_at, take-append-drop, length-append, length-drop}
 use Rattle.mg_frame.specs.BigEndian.{big_endian, big_endian_value, AreBytes}
 use Rattle.mg_frame.proofs.BigEndianLaws.{big_endian_value-big_endian, drop_past, front_back, length-big_endian, AreBytes-drop}
-use Rattle.mg_table.specs.Entries.{flag, payload_of, IsEntry}
+use Rattle.mg_table.specs.Entries.{flag, payload_of}
+use Rattle.mg_types.specs.Items.{IsEntry}
 use Rattle.mg_table.specs.Payload.{judged_numbers, judged_payload, numbers_of}
-use Rattle.mg_table.specs.declared.entry.Entry.{Entry}
+use Rattle.mg_types.specs.declared.items.Entry.{Entry}
 use Rattle.mg_table.specs.declared.entry.Payload.{Payload}
 use Rattle.mg_table.specs.declared.entry.Refused.{Refused}
 use Rattle.mg_table.specs.declared.entry.Refused.TheVariants.{Number, Form}
@@ -28,7 +29,7 @@ value-front width n rest fits =
 
 judged_numbers-in_range : (entry : Entry) → IsEntry entry → judged_numbers entry.seq entry.size (flag entry.gone) ≡ Ok (numbers_of entry)
 judged_numbers-in_range entry is =
-    rw (lt-ltb entry.seq (2 ^ 62) is.seq, le-ltb entry.size 1 is.size_from, le-ltb 1048826 entry.size is.size_to, le-ltb 1 (flag entry.gone) (flag-small entry.gone), flag-back entry.gone) refl
+    rw (lt-ltb entry.seq (2 ^ 62) is.0.1, le-ltb entry.seq 1 is.0.0, le-ltb entry.size 1 is.1.0, le-ltb 1048826 entry.size is.1.1, le-ltb 1 (flag entry.gone) (flag-small entry.gone), flag-back entry.gone) refl
 
 pub payload-read : (entry : Entry) → IsEntry entry → judged_payload (payload_of entry) ≡ Ok (numbers_of entry)
 unfolding judged_payload payload_of
@@ -37,11 +38,11 @@ payload-read entry is =
     let size = big_endian 4 entry.size in
     let gone = big_endian 1 (flag entry.gone) in
     let first : big_endian_value (take 8 ((seq ++ size) ++ gone)) ≡ entry.seq =
-    ap (λ xs. big_endian_value (take 8 xs)) (append_assoc seq size gone) ∙ value-front 8 entry.seq (size ++ gone) (omega (arith, is.seq)) in
+    ap (λ xs. big_endian_value (take 8 xs)) (append_assoc seq size gone) ∙ value-front 8 entry.seq (size ++ gone) (omega (arith, is.0.1)) in
     let second : big_endian_value (take 4 (drop 8 ((seq ++ size) ++ gone))) ≡ entry.size =
     ap (λ xs. big_endian_value (take 4 (drop 8 xs))) (append_assoc seq size gone)
     ∙ ap (λ xs. big_endian_value (take 4 xs)) (drop_at seq (size ++ gone) 8 (length-big_endian 8 entry.seq))
-    ∙ value-front 4 entry.size gone (omega (arith, is.size_to)) in
+    ∙ value-front 4 entry.size gone (omega (arith, is.1.1)) in
     let front : length (seq ++ size) ≡ 12 = omega (arith, length-append seq size, length-big_endian 8 entry.seq, length-big_endian 4 entry.size) in
     let third : big_endian_value (take 1 (drop 12 ((seq ++ size) ++ gone))) ≡ flag entry.gone =
     ap (λ xs. big_endian_value (take 1 xs)) (drop_at (seq ++ size) gone 12 front ∙ sym (append-nil gone))
@@ -62,23 +63,26 @@ flag-spelled (suc (suc gone)) small = absurd (omega (arith, small))
 -- the numbers of a payload are in range, and these are they
 pub record IsTaken (seq size gone : ℕ) (payload : Payload) : Type 0 where
   pub seq_to : seq < 2 ^ 62
+  pub seq_from : 1 ≤ seq
   pub size_from : 1 ≤ size
   pub size_to : size ≤ 1048826
   pub gone_to : gone ≤ 1
   pub is : payload ≡ record { seq = seq; size = size; gone = eqb gone 1 }
 
-taken-by : (seq size gone : ℕ) (payload : Payload) (a b c d : Bool) → ltb seq (2 ^ 62) ≡ a → ltb size 1 ≡ b → ltb 1048826 size ≡ c → ltb 1 gone ≡ d
+taken-by : (seq size gone : ℕ) (payload : Payload) (a e b c d : Bool) → ltb seq (2 ^ 62) ≡ a → ltb seq 1 ≡ e → ltb size 1 ≡ b → ltb 1048826 size ≡ c → ltb 1 gone ≡ d
     → (let taken : Result Payload Refused = Ok (record { seq = seq; size = size; gone = eqb gone 1 }) in
     let form : Result Payload Refused = Err Form in
     let number : Result Payload Refused = Err (Number seq) in
-    cond a (cond b form (cond c form (cond d form taken))) number ≡ Ok payload)
+    cond a (cond e form (cond b form (cond c form (cond d form taken)))) number ≡ Ok payload)
     → IsTaken seq size gone payload
-taken-by seq size gone payload false b c d x y z w is = absurd cc
-taken-by seq size gone payload true true c d x y z w is = absurd cc
-taken-by seq size gone payload true false true d x y z w is = absurd cc
-taken-by seq size gone payload true false false true x y z w is = absurd cc
-taken-by seq size gone payload true false false false x y z w is = record {
+taken-by seq size gone payload false e b c d x v y z w is = absurd cc
+taken-by seq size gone payload true true b c d x v y z w is = absurd cc
+taken-by seq size gone payload true false true c d x v y z w is = absurd cc
+taken-by seq size gone payload true false false true d x v y z w is = absurd cc
+taken-by seq size gone payload true false false false true x v y z w is = absurd cc
+taken-by seq size gone payload true false false false false x v y z w is = record {
   seq_to = ltb-true seq (2 ^ 62) x;
+  seq_from = ltb-false seq 1 v;
   size_from = ltb-false size 1 y;
   size_to = ltb-false 1048826 size z;
   gone_to = ltb-false 1 gone w;
@@ -100,7 +104,7 @@ spelled-again bytes key seq size gone payload t spelled =
           ∙ ap (λ n. (big_endian 8 n ++ big_endian 4 size) ++ big_endian 1 gone) (sym one)
           ∙ ap (λ n. (big_endian 8 payload.seq ++ big_endian 4 n) ++ big_endian 1 gone) (sym two)
           ∙ ap (λ n. (big_endian 8 payload.seq ++ big_endian 4 payload.size) ++ big_endian 1 n) (sym three),
-      record { seq = omega (arith, one, t.seq_to); size_from = omega (arith, two, t.size_from); size_to = omega (arith, two, t.size_to) },
+      ((omega (arith, one, t.seq_from), omega (arith, one, t.seq_to)), (omega (arith, two, t.size_from), omega (arith, two, t.size_to))),
     )
 
 three-fields : (bytes : List ℕ) → length bytes ≡ 13 → AreBytes bytes
@@ -128,7 +132,7 @@ judged-by bytes key payload true test are is =
     let seq = big_endian_value (take 8 bytes) in
     let size = big_endian_value (take 4 (drop 8 bytes)) in
     let gone = big_endian_value (take 1 (drop 12 bytes)) in
-    spelled-again bytes key seq size gone payload (taken-by seq size gone payload _ _ _ _ refl refl refl refl is) (three-fields bytes (eqb-true (length bytes) 13 test) are)
+    spelled-again bytes key seq size gone payload (taken-by seq size gone payload _ _ _ _ _ refl refl refl refl refl is) (three-fields bytes (eqb-true (length bytes) 13 test) are)
 
 -- a payload that is not refused is that of an entry in range, whatever the key
 pub payload-back : (bytes key : List ℕ) (payload : Payload) → AreBytes bytes → judged_payload bytes ≡ Ok payload

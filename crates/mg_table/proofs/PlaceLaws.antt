@@ -1,19 +1,19 @@
--- The fields of a foot, and the items of an index, from the front of a body on.
+-- The fields of a footer, and the items of an index, from the front of a body on.
 use Rattle.std.proofs.Common.{◌≡◌, ℕ, ◌+◌, ◌<◌, ◌^◌, List, [], ◌∷◌, ◌++◌, length, refl, sym, ap, ◌∙◌, subst, inl, inr, arith, append_assoc}
 use Rattle.std.proofs.lemmas.List.{append-nil, length-append}
-use Rattle.mg_model.specs.declared.faults.Fault.{Fault}
-use Rattle.mg_model.specs.declared.faults.FileId.{FileId}
+use Rattle.mg_types.specs.declared.faults.Fault.{Fault}
+use Rattle.mg_types.specs.declared.names.FileId.{FileId}
 use Rattle.mg_sealed.specs.Numbers.{AreKept}
 use Rattle.mg_sealed.proofs.NumberLaws.{one_great}
-use Rattle.mg_table.specs.Foot.{counts_bytes, foot_bytes, foot_numbers, places_bytes, span_bytes, IsFoot, IsInFields}
-use Rattle.mg_table.specs.Index.{index_bytes, key_after, place_bytes, FitsFields, IsIndexFrom, IsItemAt, IsItemUnfit}
-use Rattle.mg_table.specs.declared.foot.Foot.{Foot}
-use Rattle.mg_table.specs.declared.index.BlockPlace.{BlockPlace}
-use Rattle.mg_table.proofs.IndexLaws.{index_bytes-push, length-place_bytes}
+use Rattle.mg_table.specs.Footer.{counts_bytes, footer_bytes, footer_numbers, offsets_bytes, span_bytes, IsFooter, IsInFields}
+use Rattle.mg_table.specs.Index.{index_bytes, key_after, handle_bytes, FitsFields, IsIndexFrom, IsItemAt, IsItemUnfit}
+use Rattle.mg_table.specs.declared.footer.Footer.{Footer}
+use Rattle.mg_table.specs.declared.index.BlockHandle.{BlockHandle}
+use Rattle.mg_table.proofs.IndexLaws.{index_bytes-push, length-handle_bytes}
 
--- a foot of a table fits its fields, and its numbers are kept
-pub foot_fits : (foot : Foot) → IsFoot foot → IsInFields foot
-foot_fits foot is = record {
+-- a footer of a table fits its fields, and its numbers are kept
+pub footer_fits : (footer : Footer) → IsFooter footer → IsInFields footer
+footer_fits footer is = record {
   entries = omega (arith, is.entries);
   sizes = omega (arith, is.sizes);
   lo = omega (arith, is.lo);
@@ -23,61 +23,61 @@ foot_fits foot is = record {
   blocks = is.blocks;
 }
 
-pub foot_kept : (foot : Foot) → IsFoot foot → AreKept (foot_numbers foot)
-foot_kept foot is = (is.entries, (is.sizes, (is.lo, (is.hi, (is.index_at, (is.filter_at, tt))))))
+pub footer_kept : (footer : Footer) → IsFooter footer → AreKept (footer_numbers footer)
+footer_kept footer is = (is.entries, (is.sizes, (is.lo, (is.hi, (is.index_at, (is.filter_at, tt))))))
 
--- the fields of a foot, from left to right
-pub foot_parts : (foot : Foot) → foot_bytes foot ≡ counts_bytes foot ++ (span_bytes foot ++ (places_bytes foot ++ []))
-unfolding foot_bytes
-foot_parts foot =
-    let counts = counts_bytes foot in
-    let span = span_bytes foot in
-    let places = places_bytes foot in
-    sym (append-nil ((counts ++ span) ++ places)) ∙ append_assoc (counts ++ span) places [] ∙ append_assoc counts span (places ++ [])
+-- the fields of a footer, from left to right
+pub footer_parts : (footer : Footer) → footer_bytes footer ≡ counts_bytes footer ++ (span_bytes footer ++ (offsets_bytes footer ++ []))
+unfolding footer_bytes
+footer_parts footer =
+    let counts = counts_bytes footer in
+    let span = span_bytes footer in
+    let handles = offsets_bytes footer in
+    sym (append-nil ((counts ++ span) ++ handles)) ∙ append_assoc (counts ++ span) handles [] ∙ append_assoc counts span (handles ++ [])
 
-foot_from : ℕ → ℕ → ℕ → ℕ → ℕ → ℕ → ℕ → Foot
-foot_from entries sizes lo hi index_at filter_at blocks =
+footer_from : ℕ → ℕ → ℕ → ℕ → ℕ → ℕ → ℕ → Footer
+footer_from entries sizes lo hi index_at filter_at blocks =
     record { entries = entries; sizes = sizes; lo = lo; hi = hi; index_at = index_at; filter_at = filter_at; blocks = blocks }
 
-pub foot_is : (foot other : Foot) → foot.entries ≡ other.entries → foot.sizes ≡ other.sizes → foot.lo ≡ other.lo → foot.hi ≡ other.hi → foot.index_at ≡ other.index_at
-    → foot.filter_at ≡ other.filter_at → foot.blocks ≡ other.blocks → foot ≡ other
-unfolding foot_from
-foot_is foot other a b c d e f g =
-    let same : foot_from foot.entries foot.sizes foot.lo foot.hi foot.index_at foot.filter_at foot.blocks
-    ≡ foot_from other.entries other.sizes other.lo other.hi other.index_at other.filter_at other.blocks = cc in same
+pub footer_is : (footer other : Footer) → footer.entries ≡ other.entries → footer.sizes ≡ other.sizes → footer.lo ≡ other.lo → footer.hi ≡ other.hi → footer.index_at ≡ other.index_at
+    → footer.filter_at ≡ other.filter_at → footer.blocks ≡ other.blocks → footer ≡ other
+unfolding footer_from
+footer_is footer other a b c d e f g =
+    let same : footer_from footer.entries footer.sizes footer.lo footer.hi footer.index_at footer.filter_at footer.blocks
+    ≡ footer_from other.entries other.sizes other.lo other.hi other.index_at other.filter_at other.blocks = cc in same
 
-place_from : List ℕ → ℕ → ℕ → BlockPlace
+place_from : List ℕ → ℕ → ℕ → BlockHandle
 place_from key at len = record { key = key; at = at; len = len }
 
-pub place_is : (place other : BlockPlace) → place.key ≡ other.key → place.at ≡ other.at → place.len ≡ other.len → place ≡ other
+pub place_is : (handle other : BlockHandle) → handle.key ≡ other.key → handle.at ≡ other.at → handle.len ≡ other.len → handle ≡ other
 unfolding place_from
-place_is place other key at len = let e : place_from place.key place.at place.len ≡ place_from other.key other.at other.len = cc in e
+place_is handle other key at len = let e : place_from handle.key handle.at handle.len ≡ place_from other.key other.at other.len = cc in e
 
 -- what an item of an index spells is not nothing
-pub some_place : (place : BlockPlace) (behind : List ℕ) → length behind < length (place_bytes place ++ behind)
-some_place place behind = omega (arith, length-append (place_bytes place) behind, length-place_bytes place)
+pub some_place : (handle : BlockHandle) (behind : List ℕ) → length behind < length (handle_bytes handle ++ behind)
+some_place handle behind = omega (arith, length-append (handle_bytes handle) behind, length-handle_bytes handle)
 
 -- bytes that begin with an item are those of an index that has one left
-pub place_left : (rest behind key : List ℕ) (place : BlockPlace) (left : List BlockPlace) (at end : ℕ) → rest ≡ place_bytes place ++ behind → rest ≡ index_bytes left → IsIndexFrom key at left end
-    → (p : BlockPlace) × (ps : List BlockPlace) × (left ≡ p ∷ ps) × (rest ≡ place_bytes p ++ index_bytes ps) × IsIndexFrom key at (p ∷ ps) end
-place_left rest behind key place [] at end is spelled index = absurd (omega (arith, ap length is, ap length spelled, some_place place behind))
-place_left rest behind key place (p ∷ ps) at end is spelled index = (p, ps, refl, spelled, index)
+pub place_left : (rest behind key : List ℕ) (handle : BlockHandle) (left : List BlockHandle) (at end : ℕ) → rest ≡ handle_bytes handle ++ behind → rest ≡ index_bytes left → IsIndexFrom key at left end
+    → (p : BlockHandle) × (ps : List BlockHandle) × (left ≡ p ∷ ps) × (rest ≡ handle_bytes p ++ index_bytes ps) × IsIndexFrom key at (p ∷ ps) end
+place_left rest behind key handle [] at end is spelled index = absurd (omega (arith, ap length is, ap length spelled, some_place handle behind))
+place_left rest behind key handle (p ∷ ps) at end is spelled index = (p, ps, refl, spelled, index)
 
-pub fits_fields : (key : List ℕ) (p : BlockPlace) (ps : List BlockPlace) (at end : ℕ) → IsIndexFrom key at (p ∷ ps) end → FitsFields p
+pub fits_fields : (key : List ℕ) (p : BlockHandle) (ps : List BlockHandle) (at end : ℕ) → IsIndexFrom key at (p ∷ ps) end → FitsFields p
 fits_fields key p ps at end index = record { key = omega (arith, index.1); at = omega (arith, index.2, index.3); len = index.4 }
 
 -- where no item is left, the bytes end, and the frames too
-pub all_left : (rest key : List ℕ) (left : List BlockPlace) (at end : ℕ) → rest ≡ index_bytes left → IsIndexFrom key at left end
-    → ((p : BlockPlace) (more : List ℕ) → FitsFields p → rest ≡ place_bytes p ++ more → ⊥) → (left ≡ []) × (rest ≡ []) × (at ≡ end)
+pub all_left : (rest key : List ℕ) (left : List BlockHandle) (at end : ℕ) → rest ≡ index_bytes left → IsIndexFrom key at left end
+    → ((p : BlockHandle) (more : List ℕ) → FitsFields p → rest ≡ handle_bytes p ++ more → ⊥) → (left ≡ []) × (rest ≡ []) × (at ≡ end)
 all_left rest key [] at end spelled index none = (refl, spelled, index)
 all_left rest key (p ∷ ps) at end spelled index none = absurd (none p (index_bytes ps) (fits_fields key p ps at end index) spelled)
 
 -- one item more
-pub place_more : (places old new left : List BlockPlace) (place p : BlockPlace) (ps : List BlockPlace) → places ≡ old ++ left → left ≡ p ∷ ps → place ≡ p → new ≡ old ++ place ∷ [] → places ≡ new ++ ps
-place_more places old new left place p ps all one same put =
-    all ∙ ap (λ xs. old ++ xs) one ∙ ap (λ x. old ++ x ∷ ps) (sym same) ∙ sym (append_assoc old (place ∷ []) ps) ∙ ap (λ xs. xs ++ ps) (sym put)
+pub place_more : (handles old new left : List BlockHandle) (handle p : BlockHandle) (ps : List BlockHandle) → handles ≡ old ++ left → left ≡ p ∷ ps → handle ≡ p → new ≡ old ++ handle ∷ [] → handles ≡ new ++ ps
+place_more handles old new left handle p ps all one same put =
+    all ∙ ap (λ xs. old ++ xs) one ∙ ap (λ x. old ++ x ∷ ps) (sym same) ∙ sym (append_assoc old (handle ∷ []) ps) ∙ ap (λ xs. xs ++ ps) (sym put)
 
-pub index_more : (key next_key : List ℕ) (p : BlockPlace) (ps : List BlockPlace) (at end next : ℕ) → next_key ≡ p.key → next ≡ p.at + p.len → IsIndexFrom key at (p ∷ ps) end
+pub index_more : (key next_key : List ℕ) (p : BlockHandle) (ps : List BlockHandle) (at end next : ℕ) → next_key ≡ p.key → next ≡ p.at + p.len → IsIndexFrom key at (p ∷ ps) end
     → IsIndexFrom next_key next ps end
 index_more key next_key p ps at end next same is index =
     let there : at + p.len ≡ next = omega (arith, is, index.2) in
@@ -89,32 +89,34 @@ none_left (x ∷ xs) none = absurd (omega (arith, none))
 
 -- ---- items that are judged
 
-unfit_item : (id : FileId) (at : ℕ) (key : List ℕ) (place end : ℕ) (p : BlockPlace) (ps : List BlockPlace) (fault : Fault) → IsIndexFrom key place (p ∷ ps) end
-    → IsItemUnfit id at key place p fault → ⊥
-unfit_item id at key place end p ps fault is (inl apart) = apart.0 (is.0, is.1)
-unfit_item id at key place end p ps fault is (inr (inl great)) = absurd (omega (arith, one_great id at p.at fault great.1, is.2, is.3))
-unfit_item id at key place end p ps fault is (inr (inr apart)) = apart.2 is.2
+unfit_item : (id : FileId) (at : ℕ) (key : List ℕ) (handle end : ℕ) (p : BlockHandle) (ps : List BlockHandle) (fault : Fault) → IsIndexFrom key handle (p ∷ ps) end
+    → IsItemUnfit id at key handle p fault → ⊥
+unfit_item id at key handle end p ps fault is (inl apart) = apart.0 (is.0, is.1)
+unfit_item id at key handle end p ps fault is (inr unfit) = elim unfit.1 [
+  | inl great ↦ absurd (omega (arith, one_great id at p.at fault great, is.2, is.3))
+  | inr apart ↦ apart.1 is.2
+]
 
 -- nothing is wrong with an item of an index
-pub right_item : (id : FileId) (at : ℕ) (key : List ℕ) (place end : ℕ) (p other : BlockPlace) (ps : List BlockPlace) (fault : Fault) → other ≡ p → IsIndexFrom key place (p ∷ ps) end
-    → IsItemUnfit id at key place other fault → ⊥
-right_item id at key place end p other ps fault same is unfit =
-    unfit_item id at key place end p ps fault is (subst (λ (q : BlockPlace). IsItemUnfit id at key place q fault) same unfit)
+pub right_item : (id : FileId) (at : ℕ) (key : List ℕ) (handle end : ℕ) (p other : BlockHandle) (ps : List BlockHandle) (fault : Fault) → other ≡ p → IsIndexFrom key handle (p ∷ ps) end
+    → IsItemUnfit id at key handle other fault → ⊥
+right_item id at key handle end p other ps fault same is unfit =
+    unfit_item id at key handle end p ps fault is (subst (λ (q : BlockHandle). IsItemUnfit id at key handle q fault) same unfit)
 
 -- an index with one item more
-pub index_push : (key : List ℕ) (at : ℕ) (places : List BlockPlace) (end : ℕ) (place : BlockPlace) (next : ℕ) → IsIndexFrom key at places end → IsItemAt (key_after key places) end place
-    → place.len < 2 ^ 32 → next ≡ place.at + place.len → IsIndexFrom key at (places ++ place ∷ []) next
-index_push key at [] end place next is item fits here = (item.0.0, item.0.1, omega (arith, is, item.1), omega (arith, is, item.2), fits, omega (arith, is, item.1, here))
-index_push key at (p ∷ places) end place next is item fits here =
-    (is.0, is.1, is.2, is.3, is.4, index_push p.key (at + p.len) places end place next is.5 item fits here)
+pub index_push : (key : List ℕ) (at : ℕ) (handles : List BlockHandle) (end : ℕ) (handle : BlockHandle) (next : ℕ) → IsIndexFrom key at handles end → IsItemAt (key_after key handles) end handle
+    → handle.len < 2 ^ 32 → next ≡ handle.at + handle.len → IsIndexFrom key at (handles ++ handle ∷ []) next
+index_push key at [] end handle next is item fits here = (item.0.0, item.0.1, omega (arith, is, item.1), omega (arith, is, item.2), fits, omega (arith, is, item.1, here))
+index_push key at (p ∷ handles) end handle next is item fits here =
+    (is.0, is.1, is.2, is.3, is.4, index_push p.key (at + p.len) handles end handle next is.5 item fits here)
 
-pub key_after-push : (key : List ℕ) (places : List BlockPlace) (place : BlockPlace) → key_after key (places ++ place ∷ []) ≡ place.key
-key_after-push key [] place = refl
-key_after-push key (p ∷ places) place = key_after-push p.key places place
+pub key_after-push : (key : List ℕ) (handles : List BlockHandle) (handle : BlockHandle) → key_after key (handles ++ handle ∷ []) ≡ handle.key
+key_after-push key [] handle = refl
+key_after-push key (p ∷ handles) handle = key_after-push p.key handles handle
 
 -- the body of an index with one item more
-pub body_push : (body rest behind : List ℕ) (places new : List BlockPlace) (place : BlockPlace) → body ≡ index_bytes places ++ rest → rest ≡ place_bytes place ++ behind
-    → new ≡ places ++ place ∷ [] → body ≡ index_bytes new ++ behind
-body_push body rest behind places new place is begins put =
-    is ∙ ap (λ xs. index_bytes places ++ xs) begins ∙ sym (append_assoc (index_bytes places) (place_bytes place) behind)
-    ∙ ap (λ xs. xs ++ behind) (sym (ap index_bytes put ∙ index_bytes-push places place))
+pub body_push : (body rest behind : List ℕ) (handles new : List BlockHandle) (handle : BlockHandle) → body ≡ index_bytes handles ++ rest → rest ≡ handle_bytes handle ++ behind
+    → new ≡ handles ++ handle ∷ [] → body ≡ index_bytes new ++ behind
+body_push body rest behind handles new handle is begins put =
+    is ∙ ap (λ xs. index_bytes handles ++ xs) begins ∙ sym (append_assoc (index_bytes handles) (handle_bytes handle) behind)
+    ∙ ap (λ xs. xs ++ behind) (sym (ap index_bytes put ∙ index_bytes-push handles handle))

@@ -1,5 +1,5 @@
 -- What is read of a table's blocks.
-use Rattle.std.proofs.Common.{◌≡◌, ℕ, zero, suc, ◌+◌, ◌<◌, ◌≤◌, ◌^◌, inl, List, [], ◌∷◌, ◌++◌, length, get_or, take, drop, map, refl, sym, ap, subst, ◌∙◌, arith, append_assoc, Option, Some, None, IfSome, Result, Ok, Err, MatchResult}
+use Rattle.std.proofs.Common.{◌≡◌, ℕ, zero, suc, ◌+◌, ◌*◌, ◌<◌, ◌≤◌, ◌^◌, inl, List, [], ◌∷◌, ◌++◌, length, get_or, take, drop, map, refl, sym, ap, subst, ◌∙◌, arith, append_assoc, Option, Some, None, IfSome, Result, Ok, Err, MatchResult}
 use Rattle.std.proofs.lemmas.Bool.{eq-eqb}
 use Rattle.std.proofs.lemmas.List.{map-append, take-append-drop, take_more, length-map, length-take-le}
 use Rattle.std.proofs.lemmas.List.Elements.{All-cons, All-head, All-nil, All-tail}
@@ -7,23 +7,24 @@ use Rattle.std.specs.List.{All}
 use Rattle.mg_block.specs.Block.{block_of, IsBlock, Precedes, RiseAfter}
 use Rattle.mg_block.proofs.Order.{Precedes-trans}
 use Rattle.mg_frame.specs.Frames.{numbered_frames}
-use Rattle.mg_model.specs.declared.faults.Fault.{Fault}
-use Rattle.mg_model.specs.declared.faults.Fault.TheVariants.{NoMemory}
-use Rattle.mg_model.specs.declared.faults.FileId.{FileId}
+use Rattle.mg_types.specs.declared.faults.Fault.{Fault}
+use Rattle.mg_types.specs.declared.faults.Fault.TheVariants.{NoMemory}
+use Rattle.mg_types.specs.declared.names.FileId.{FileId}
 use Rattle.mg_sealed.specs.Answers.{Answers, IsOutside}
 use Rattle.mg_sealed.specs.Blocks as file
 use Rattle.mg_sealed.specs.Filling.{Fits, AreFilled, items_of}
 use Rattle.mg_sealed.specs.Reading.{frame_body}
 use Rattle.mg_sealed.proofs.AnswerLaws.{refused}
 use Rattle.mg_sealed.proofs.WrittenLaws.{written_frame_is_read}
-use Rattle.mg_table.specs.Entries.{block_body, pair_of, AreEntries, IsEntry}
-use Rattle.mg_table.specs.Foot.{foot_bytes}
-use Rattle.mg_table.specs.Index.{frame_length, index_bytes, places_from}
-use Rattle.mg_table.specs.Table.{foot_of, table_bodies, Stands}
-use Rattle.mg_table.specs.declared.entry.Entry.{Entry}
-use Rattle.mg_table.specs.declared.index.BlockPlace.{BlockPlace}
+use Rattle.mg_table.specs.Entries.{block_body, pair_of, AreEntries}
+use Rattle.mg_types.specs.Items.{IsEntry}
+use Rattle.mg_table.specs.Footer.{footer_bytes}
+use Rattle.mg_table.specs.Index.{frame_length, index_bytes, handles_from}
+use Rattle.mg_table.specs.Table.{footer_of, table_bodies, Represents}
+use Rattle.mg_types.specs.declared.items.Entry.{Entry}
+use Rattle.mg_table.specs.declared.index.BlockHandle.{BlockHandle}
 use Rattle.mg_table.specs.declared.table.Table.{Table}
-use Rattle.mg_table.proofs.LoadingLaws.{length-places_from, most_bytes, rise_front}
+use Rattle.mg_table.proofs.LoadingLaws.{few_blocks, length-handles_from, most_bytes, rise_front}
 use Rattle.mg_table.proofs.IndexLaws.{length-frames, place_behind, total}
 
 -- ---- the entries of one block
@@ -67,12 +68,12 @@ filled-at block_of (block ∷ blocks) (suc k) d filled within = filled-at block_
 
 -- ---- where blocks stand
 
-pub place-at : (at : ℕ) (blocks : List (List Entry)) (k : ℕ) (p : BlockPlace) (d : List Entry) → k < length blocks
-    → get_or (places_from at blocks) k p ≡ place_behind (at + total (take k blocks)) (get_or blocks k d)
-place-at at [] k p d within = absurd (omega arith)
-place-at at (block ∷ blocks) zero p d within = ap (λ n. place_behind n block) (omega arith)
-place-at at (block ∷ blocks) (suc k) p d within =
-    place-at (at + frame_length block) blocks k p d (omega arith) ∙ ap (λ n. place_behind n (get_or blocks k d)) (omega arith)
+pub handle-at : (at : ℕ) (blocks : List (List Entry)) (k : ℕ) (p : BlockHandle) (d : List Entry) → k < length blocks
+    → get_or (handles_from at blocks) k p ≡ place_behind (at + total (take k blocks)) (get_or blocks k d)
+handle-at at [] k p d within = absurd (omega arith)
+handle-at at (block ∷ blocks) zero p d within = ap (λ n. place_behind n block) (omega arith)
+handle-at at (block ∷ blocks) (suc k) p d within =
+    handle-at (at + frame_length block) blocks k p d (omega arith) ∙ ap (λ n. place_behind n (get_or blocks k d)) (omega arith)
 
 -- ---- the frame of a block
 
@@ -82,7 +83,7 @@ parts-at xs k d within =
     ∙ ap (λ front. front ++ drop (k + 1) xs) (take_more xs k d within)
     ∙ append_assoc (take k xs) (get_or xs k d ∷ []) (drop (k + 1) xs)
 
-block-frame : (id : FileId) (blocks : List (List Entry)) (others : List (List ℕ)) (k : ℕ) (d : List Entry) → k < length blocks → length blocks < 2 ^ 23
+block-frame : (id : FileId) (blocks : List (List Entry)) (others : List (List ℕ)) (k : ℕ) (d : List Entry) → k < length blocks → 13 * length blocks < 2 ^ 32
     → length (block_body (get_or blocks k d)) ≤ 4096
     → frame_body id (numbered_frames (map block_body blocks ++ others)) (total (take k blocks)) k ≡ Ok (block_body (get_or blocks k d))
 block-frame id blocks others k d within few small =
@@ -101,44 +102,44 @@ block-frame id blocks others k d within few small =
     ∙ ap (λ n. frame_body id (numbered_frames (before ++ body ∷ after)) (length (numbered_frames before)) n) (sym count)
     ∙ read
 
--- what is read of the block whose place is this
-abbrev pub read_at : {S : Type 0} → Table S → List ℕ → BlockPlace → ℕ → Result (List ℕ) Fault
-read_at table bytes place k = file.block_body table.file.id bytes place.at place.len k
+-- what is read of the block whose handle is this
+abbrev pub read_at : {S : Type 0} → Table S → List ℕ → BlockHandle → ℕ → Result (List ℕ) Fault
+read_at table bytes handle k = file.block_body table.file.id bytes handle.at handle.len k
 
--- each block of a table is read at its place
-pub block-read : {S : Type 0} (told : S → Option (List ℕ)) (table : Table S) (entries : List Entry) (stands : Stands told table entries) (bytes : List ℕ)
-    → told table.file.file ≡ Some bytes → (place : BlockPlace) (k : ℕ) → k < length table.index → place ≡ get_or table.index k place
-    → (d : List Entry) → read_at table bytes place k ≡ Ok (block_body (get_or stands.blocks k d))
+-- each block of a table is read at its handle
+pub block-read : {S : Type 0} (told : S → Option (List ℕ)) (table : Table S) (entries : List Entry) (stands : Represents told table entries) (bytes : List ℕ)
+    → told table.file.file ≡ Some bytes → (handle : BlockHandle) (k : ℕ) → k < length table.index → handle ≡ get_or table.index k handle
+    → (d : List Entry) → read_at table bytes handle k ≡ Ok (block_body (get_or stands.blocks k d))
 unfolding file.block_body
-block-read {S} told table entries stands bytes tells place k within is d =
+block-read {S} told table entries stands bytes tells handle k within is d =
     let blocks = stands.blocks in
     let parts = stands.parts in
     let block = get_or blocks k d in
-    let inside : k < length blocks = omega (arith, ap length stands.index, length-places_from 0 blocks) in
-    let are : AreEntries (items_of blocks) = subst AreEntries (sym parts.whole) parts.rising in
-    let small = most_bytes [] block (block-entries blocks k d are inside).rising (filled-at block_body blocks k d parts.filled inside) in
-    let there : place ≡ place_behind (total (take k blocks)) block =
-    is ∙ ap (λ ps. get_or ps k place) stands.index ∙ place-at 0 blocks k place d inside ∙ ap (λ n. place_behind n block) (omega arith) in
+    let inside : k < length blocks = omega (arith, ap length stands.index, length-handles_from 0 blocks) in
+    let are : AreEntries (items_of blocks) = subst AreEntries (sym parts.listed.whole) parts.listed.rising in
+    let small = most_bytes [] block (block-entries blocks k d are inside).rising (filled-at block_body blocks k d parts.listed.filled inside) in
+    let there : handle ≡ place_behind (total (take k blocks)) block =
+    is ∙ ap (λ ps. get_or ps k handle) stands.index ∙ handle-at 0 blocks k handle d inside ∙ ap (λ n. place_behind n block) (omega arith) in
     let file = stands.file in
-    let written : bytes ≡ numbered_frames (table_bodies table.foot.lo table.foot.hi blocks table.filter) =
-    subst (λ o. IfSome o (λ bs. bs ≡ numbered_frames (table_bodies table.foot.lo table.foot.hi blocks table.filter))) tells file in
-    let rest = index_bytes (places_from 0 blocks) ∷ table.filter ∷ foot_bytes (foot_of table.foot.lo table.foot.hi blocks table.filter) ∷ [] in
+    let written : bytes ≡ numbered_frames (table_bodies table.footer.lo table.footer.hi blocks table.filter) =
+    subst (λ o. IfSome o (λ bs. bs ≡ numbered_frames (table_bodies table.footer.lo table.footer.hi blocks table.filter))) tells file in
+    let rest = index_bytes (handles_from 0 blocks) ∷ table.filter ∷ footer_bytes (footer_of table.footer.lo table.footer.hi blocks table.filter) ∷ [] in
     let frame : frame_body table.file.id bytes (total (take k blocks)) k ≡ Ok (block_body block) =
-    ap (λ bs. frame_body table.file.id bs (total (take k blocks)) k) written ∙ block-frame table.file.id blocks rest k d inside parts.few small in
+    ap (λ bs. frame_body table.file.id bs (total (take k blocks)) k) written ∙ block-frame table.file.id blocks rest k d inside (few_blocks blocks parts.listed.few) small in
     rw (there, frame, eq-eqb (length (block_body block) + 20) (length (block_body block) + 20) refl) refl
 
-pub told-length : {S : Type 0} (told : S → Option (List ℕ)) (table : Table S) (entries : List Entry) (stands : Stands told table entries) (bytes : List ℕ)
+pub told-length : {S : Type 0} (told : S → Option (List ℕ)) (table : Table S) (entries : List Entry) (stands : Represents told table entries) (bytes : List ℕ)
     → told table.file.file ≡ Some bytes → table.file.len ≡ length bytes
 told-length {S} told table entries stands bytes tells =
-    let written : bytes ≡ numbered_frames (table_bodies table.foot.lo table.foot.hi stands.blocks table.filter) =
-    subst (λ o. IfSome o (λ bs. bs ≡ numbered_frames (table_bodies table.foot.lo table.foot.hi stands.blocks table.filter))) tells stands.file in
+    let written : bytes ≡ numbered_frames (table_bodies table.footer.lo table.footer.hi stands.blocks table.filter) =
+    subst (λ o. IfSome o (λ bs. bs ≡ numbered_frames (table_bodies table.footer.lo table.footer.hi stands.blocks table.filter))) tells stands.file in
     stands.len ∙ sym (ap length written)
 
 -- each block of a table is the block of entries of it
-pub block-is : {S : Type 0} (told : S → Option (List ℕ)) (table : Table S) (entries : List Entry) (stands : Stands told table entries) (k : ℕ) (d : List Entry)
+pub block-is : {S : Type 0} (told : S → Option (List ℕ)) (table : Table S) (entries : List Entry) (stands : Represents told table entries) (k : ℕ) (d : List Entry)
     → k < length table.index → AreEntries (get_or stands.blocks k d)
 block-is told table entries stands k d within =
-    block-entries stands.blocks k d (subst AreEntries (sym stands.parts.whole) stands.parts.rising) (omega (arith, ap length stands.index, length-places_from 0 stands.blocks))
+    block-entries stands.blocks k d (subst AreEntries (sym stands.parts.listed.whole) stands.parts.listed.rising) (omega (arith, ap length stands.index, length-handles_from 0 stands.blocks))
 
 -- ---- what was read
 
@@ -147,21 +148,21 @@ told-then None P Q step known = tt
 told-then (Some bytes) P Q step known = step bytes refl known
 
 -- a block of a table is refused only from outside
-pub block-refused : {S : Type 0} (told : S → Option (List ℕ)) (table : Table S) (entries : List Entry) (stands : Stands told table entries) (bytes : List ℕ)
-    → told table.file.file ≡ Some bytes → (place : BlockPlace) (k : ℕ) → k < length table.index → place ≡ get_or table.index k place → (fault : Fault)
-    → (table.file.len ≡ length bytes → Answers (read_at table bytes place k) (Err fault)) → IsOutside fault
-block-refused told table entries stands bytes tells place k within is fault known =
-    refused (block_body (get_or stands.blocks k [])) (read_at table bytes place k) fault (block-read told table entries stands bytes tells place k within is [])
+pub block-refused : {S : Type 0} (told : S → Option (List ℕ)) (table : Table S) (entries : List Entry) (stands : Represents told table entries) (bytes : List ℕ)
+    → told table.file.file ≡ Some bytes → (handle : BlockHandle) (k : ℕ) → k < length table.index → handle ≡ get_or table.index k handle → (fault : Fault)
+    → (table.file.len ≡ length bytes → Answers (read_at table bytes handle k) (Err fault)) → IsOutside fault
+block-refused told table entries stands bytes tells handle k within is fault known =
+    refused (block_body (get_or stands.blocks k [])) (read_at table bytes handle k) fault (block-read told table entries stands bytes tells handle k within is [])
     (known (told-length told table entries stands bytes tells))
 
 -- what is read of one is the block of its entries
-pub block-answered : {S : Type 0} (told : S → Option (List ℕ)) (table : Table S) (entries : List Entry) (stands : Stands told table entries) (bytes : List ℕ)
-    → told table.file.file ≡ Some bytes → (place : BlockPlace) (k : ℕ) → k < length table.index → place ≡ get_or table.index k place → (frame : List ℕ)
-    → (table.file.len ≡ length bytes → Answers (read_at table bytes place k) (Ok frame)) → (d : List Entry)
+pub block-answered : {S : Type 0} (told : S → Option (List ℕ)) (table : Table S) (entries : List Entry) (stands : Represents told table entries) (bytes : List ℕ)
+    → told table.file.file ≡ Some bytes → (handle : BlockHandle) (k : ℕ) → k < length table.index → handle ≡ get_or table.index k handle → (frame : List ℕ)
+    → (table.file.len ≡ length bytes → Answers (read_at table bytes handle k) (Ok frame)) → (d : List Entry)
     → IsBlock frame (map pair_of (get_or stands.blocks k d)) × All IsEntry (get_or stands.blocks k d)
-block-answered told table entries stands bytes tells place k within is frame known d =
-    let read = block-read told table entries stands bytes tells place k within is d in
-    let answer : read_at table bytes place k ≡ Ok frame = known (told-length told table entries stands bytes tells) in
+block-answered told table entries stands bytes tells handle k within is frame known d =
+    let read = block-read told table entries stands bytes tells handle k within is d in
+    let answer : read_at table bytes handle k ≡ Ok frame = known (told-length told table entries stands bytes tells) in
     let same : frame ≡ block_body (get_or stands.blocks k d) = cc in
     let are = block-is told table entries stands k d within in
     (record { rising = are.rising; spelling = same }, are.each)

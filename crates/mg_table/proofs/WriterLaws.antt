@@ -6,10 +6,11 @@ use Rattle.mg_block.specs.View.{last_pair}
 use Rattle.mg_block.specs.declared.pair.Pair.{Pair}
 use Rattle.mg_bloom.specs.Bloom.{key_words, AddsWords}
 use Rattle.mg_sealed.specs.Filling.{AreFilled, items_of}
-use Rattle.mg_table.specs.Entries.{block_body, first_key, pair_of, payload_of, IsEntry}
+use Rattle.mg_table.specs.Entries.{block_body, first_key, pair_of, payload_of}
+use Rattle.mg_types.specs.Items.{IsEntry}
 use Rattle.mg_table.specs.Table.{hashed_keys}
 use Rattle.mg_table.specs.Writing.{ClosedBlocks, Fills, HasBlocks, IsReady, IsWriting, Writing}
-use Rattle.mg_table.specs.declared.entry.Entry.{Entry}
+use Rattle.mg_types.specs.declared.items.Entry.{Entry}
 use Rattle.mg_table.proofs.EntryLaws.{last_of-behind, sizes_of-push, AreEntries-push}
 use Rattle.mg_table.proofs.FilterLaws.{HasBitsOf-put}
 use Rattle.mg_sealed.proofs.FilledLaws.{alone-filled, filled-closed, filled-more, items_of-push, push-some}

@@ -1,10 +1,11 @@
 -- The entries of a table, and the blocks that they make.
-use Rattle.std.specs.Prelude.{ℕ, ◌≤◌, ◌<◌, ◌^◌, Bool, true, false, List, [], ◌∷◌, ◌++◌, map}
+use Rattle.std.specs.Prelude.{ℕ, Bool, true, false, List, [], ◌∷◌, ◌++◌, map}
 use Rattle.std.specs.List.{All}
 use Rattle.mg_block.specs.Block.{block_of, AreRising}
 use Rattle.mg_block.specs.declared.pair.Pair.{Pair}
 use Rattle.mg_frame.specs.BigEndian.{big_endian}
-use Rattle.mg_table.specs.declared.entry.Entry.{Entry}
+use Rattle.mg_types.specs.Items.{IsEntry}
+use Rattle.mg_types.specs.declared.items.Entry.{Entry}
 
 -- whether an entry is a delete, as a number
 abbrev pub flag : Bool → ℕ
@@ -27,12 +28,6 @@ block_body entries = block_of (map pair_of entries)
 abbrev pub first_key : List Entry → List ℕ
 first_key [] = []
 first_key (entry ∷ _) = entry.key
-
--- an entry's numbers are in range
-pub record IsEntry (entry : Entry) : Type 0 where
-  pub seq : entry.seq < 2 ^ 62
-  pub size_from : 1 ≤ entry.size
-  pub size_to : entry.size ≤ 1048826
 
 -- the keys strictly rise, and each entry's numbers are in range
 pub record AreEntries (entries : List Entry) : Type 0 where

@@ -1,10 +1,11 @@
 pub mod Entries
 pub mod Filters
-pub mod Foot
+pub mod Footer
 pub mod Index
 pub mod Lists
 pub mod Loading
 pub mod Payload
 pub mod Reading
+pub mod Scanning
 pub mod Table
 pub mod Writing

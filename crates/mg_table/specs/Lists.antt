@@ -2,7 +2,7 @@
 use Rattle.std.specs.Prelude.{◌≡◌, ℕ, List}
 use Rattle.mg_frame.specs.BigEndian.{AreBytes}
 use Rattle.mg_table.specs.Table.{IsTable}
-use Rattle.mg_table.specs.declared.entry.Entry.{Entry}
+use Rattle.mg_types.specs.declared.items.Entry.{Entry}
 
 -- bytes are the table of one list of entries over one interval
 abbrev pub OneTable : Type 0

@@ -1,7 +1,7 @@
 -- What a payload says of an entry.
 use Rattle.std.specs.Prelude.{ℕ, ◌^◌, ◌==◌, List, length, take, drop, nat_lt, if◌then◌else◌, Result, Ok, Err}
 use Rattle.mg_frame.specs.BigEndian.{big_endian_value}
-use Rattle.mg_table.specs.declared.entry.Entry.{Entry}
+use Rattle.mg_types.specs.declared.items.Entry.{Entry}
 use Rattle.mg_table.specs.declared.entry.Payload.{Payload}
 use Rattle.mg_table.specs.declared.entry.Refused.{Refused}
 use Rattle.mg_table.specs.declared.entry.Refused.TheVariants.{Number, Form}
@@ -14,10 +14,11 @@ numbers_of entry = record { seq = entry.seq; size = entry.size; gone = entry.gon
 abbrev pub judged_numbers : ℕ → ℕ → ℕ → Result Payload Refused
 judged_numbers seq size gone =
     if nat_lt seq (2 ^ 62) then
-    (if nat_lt size 1 then Err Form
+    (if nat_lt seq 1 then Err Form
+    else (if nat_lt size 1 then Err Form
     else (if nat_lt 1048826 size then Err Form
     else (if nat_lt 1 gone then Err Form
-    else Ok (record { seq = seq; size = size; gone = gone == 1 }))))
+    else Ok (record { seq = seq; size = size; gone = gone == 1 })))))
     else Err (Number seq)
 
 -- a payload of 13 bytes by its numbers; of any other length it is refused

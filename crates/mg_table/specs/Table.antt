@@ -6,10 +6,10 @@ use Rattle.mg_frame.specs.Frames.{numbered_frames}
 use Rattle.mg_sealed.specs.Filling.{AreFilled, items_of}
 use Rattle.mg_table.specs.Entries.{block_body, AreEntries}
 use Rattle.mg_table.specs.Filters.{IsFilterOf}
-use Rattle.mg_table.specs.Foot.{foot_bytes}
-use Rattle.mg_table.specs.Index.{index_bytes, places_from}
-use Rattle.mg_table.specs.declared.entry.Entry.{Entry}
-use Rattle.mg_table.specs.declared.foot.Foot.{Foot}
+use Rattle.mg_table.specs.Footer.{footer_bytes}
+use Rattle.mg_table.specs.Index.{index_bytes, handles_from}
+use Rattle.mg_types.specs.declared.items.Entry.{Entry}
+use Rattle.mg_table.specs.declared.footer.Footer.{Footer}
 use Rattle.mg_table.specs.declared.table.Table.{Table}
 
 -- what the keys of entries are hashed to
@@ -20,9 +20,9 @@ hashed_keys entries = map (λ entry. key_words entry.key) entries
 abbrev pub sizes_of : List Entry → ℕ
 sizes_of entries = sum_by (λ entry. entry.size) entries
 
--- the foot of a table over an interval with these blocks and this filter
-abbrev pub foot_of : ℕ → ℕ → List (List Entry) → List ℕ → Foot
-foot_of lo hi blocks filter =
+-- the footer of a table over an interval with these blocks and this filter
+abbrev pub footer_of : ℕ → ℕ → List (List Entry) → List ℕ → Footer
+footer_of lo hi blocks filter =
     let index_at = length (numbered_frames (map block_body blocks)) in
     record {
       entries = length (items_of blocks);
@@ -30,26 +30,30 @@ foot_of lo hi blocks filter =
       lo = lo;
       hi = hi;
       index_at = index_at;
-      filter_at = index_at + length (index_bytes (places_from 0 blocks)) + 20;
+      filter_at = index_at + length (index_bytes (handles_from 0 blocks)) + 20;
       blocks = length blocks;
     }
 
--- the bodies of a table's frames: the blocks, the index, the filter and the foot
+-- the bodies of a table's frames: the blocks, the index, the filter and the footer
 abbrev pub table_bodies : ℕ → ℕ → List (List Entry) → List ℕ → List (List ℕ)
 table_bodies lo hi blocks filter =
-    map block_body blocks ++ index_bytes (places_from 0 blocks) ∷ filter ∷ foot_bytes (foot_of lo hi blocks filter) ∷ []
+    map block_body blocks ++ index_bytes (handles_from 0 blocks) ∷ filter ∷ footer_bytes (footer_of lo hi blocks filter) ∷ []
 
--- These entries in these blocks are those of a table, with this filter: at least one entry, keys that strictly rise, blocks
--- that are filled in order, and a filter of exactly these keys. Both numbers of the interval are in range.
-pub record IsTableOf (lo hi : ℕ) (entries : List Entry) (blocks : List (List Entry)) (filter : List ℕ) : Type 0 where
+-- These entries in these blocks are those of a table: at least one entry, keys that strictly rise, blocks that are filled in order, and an
+-- index that a frame has room for. Both numbers of the interval are in range.
+pub record AreBlocksOf (lo hi : ℕ) (entries : List Entry) (blocks : List (List Entry)) : Type 0 where
   pub some : entries ≢ []
   pub rising : AreEntries entries
   pub whole : items_of blocks ≡ entries
   pub filled : AreFilled block_body blocks
-  pub few : length blocks < 2 ^ 23
-  pub filtered : IsFilterOf (hashed_keys entries) filter
+  pub few : length (index_bytes (handles_from 0 blocks)) < 2 ^ 32
   pub from : lo < 2 ^ 62
   pub to : hi < 2 ^ 62
+
+-- these entries in these blocks are those of a table with this filter, which is one of exactly their keys
+pub record IsTableOf (lo hi : ℕ) (entries : List Entry) (blocks : List (List Entry)) (filter : List ℕ) : Type 0 where
+  pub listed : AreBlocksOf lo hi entries blocks
+  pub filtered : IsFilterOf (hashed_keys entries) filter
 
 -- the bytes are the table of these entries over this interval
 pub record IsTable (bytes : List ℕ) (lo hi : ℕ) (entries : List Entry) : Type 0 where
@@ -58,12 +62,19 @@ pub record IsTable (bytes : List ℕ) (lo hi : ℕ) (entries : List Entry) : Typ
   pub parts : IsTableOf lo hi entries blocks filter
   pub bytes_are : bytes ≡ numbered_frames (table_bodies lo hi blocks filter)
 
--- A table as it is kept stands for these entries: its foot, index and filter are theirs, and where the port tells the file's
--- bytes, these are their table.
-pub record Stands {S : Type 0} (told : S → Option (List ℕ)) (table : Table S) (entries : List Entry) : Type 0 where
+-- The bytes are the table of these entries over this interval, but for the bits of its filter, which is this one. Where that is a filter of
+-- exactly their keys, the bytes are the table.
+pub record IsTableBut (bytes : List ℕ) (lo hi : ℕ) (entries : List Entry) (filter : List ℕ) : Type 0 where
   pub blocks : List (List Entry)
-  pub parts : IsTableOf table.foot.lo table.foot.hi entries blocks table.filter
-  pub foot : table.foot ≡ foot_of table.foot.lo table.foot.hi blocks table.filter
-  pub index : table.index ≡ places_from 0 blocks
-  pub len : table.file.len ≡ length (numbered_frames (table_bodies table.foot.lo table.foot.hi blocks table.filter))
-  pub file : IfSome (told table.file.file) (λ bytes. bytes ≡ numbered_frames (table_bodies table.foot.lo table.foot.hi blocks table.filter))
+  pub parts : AreBlocksOf lo hi entries blocks
+  pub bytes_are : bytes ≡ numbered_frames (table_bodies lo hi blocks filter)
+
+-- A table as it is kept stands for these entries: its footer, index and filter are theirs, and where the port tells the file's
+-- bytes, these are their table.
+pub record Represents {S : Type 0} (told : S → Option (List ℕ)) (table : Table S) (entries : List Entry) : Type 0 where
+  pub blocks : List (List Entry)
+  pub parts : IsTableOf table.footer.lo table.footer.hi entries blocks table.filter
+  pub footer : table.footer ≡ footer_of table.footer.lo table.footer.hi blocks table.filter
+  pub index : table.index ≡ handles_from 0 blocks
+  pub len : table.file.len ≡ length (numbered_frames (table_bodies table.footer.lo table.footer.hi blocks table.filter))
+  pub file : IfSome (told table.file.file) (λ bytes. bytes ≡ numbered_frames (table_bodies table.footer.lo table.footer.hi blocks table.filter))

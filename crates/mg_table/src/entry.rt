@@ -5,19 +5,8 @@ ghost use Rattle.mg_table.specs.Entries.{payload_of};
 ghost use Rattle.mg_table.specs.Payload.{judged_payload};
 
 use mg_frame::{get_u8, get_u32, get_u64, put_u8, put_u32, put_u64};
-use mg_model::Key;
+use mg_types::{Entry, MAX_SIZE, NUMBER_LIMIT};
 use std::alloc::AllocError;
-
-/// What a table has of a key: the number and size of its newest mutation, and whether that is a delete.
-#[derive(Debug, Drop)]
-pub struct Entry {
-    pub key: Key,
-    /// The sequence number, below 2^62.
-    pub seq: u64,
-    /// The bytes of key and document together, from 1 to 1,048,826.
-    pub size: u32,
-    pub gone: bool,
-}
 
 /// Appends the entry's payload in a block, or a front of it for want of memory.
 #[tactic(auto, unfolding(crate::specs::Entries::payload_of))]
@@ -57,10 +46,10 @@ pub(crate) fn take_payload(payload: &[u8]) -> Result<Payload, Refused>
     let seq = get_u64(payload, 0).unwrap_or(0);
     let size = get_u32(payload, 8).unwrap_or(0);
     let gone = get_u8(payload, 12).unwrap_or(0);
-    if seq >= 1 << 62 {
+    if seq >= NUMBER_LIMIT {
         return Err(Refused::Number(seq));
     }
-    if size < 1 || size > 1_048_826 || gone > 1 {
+    if seq < 1 || size < 1 || size > MAX_SIZE || gone > 1 {
         return Err(Refused::Form);
     }
     let gone = gone == 1;

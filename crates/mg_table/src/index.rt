@@ -3,19 +3,19 @@
 ghost use Rattle.std.specs.Prelude.{◌≡◌, ◌≤◌, ◌<◌, ◌^◌, ◌⊎◌, ◌↔◌, ◌++◌, ℕ, List, [], length, OnOk, IfErr, IfOk, IfSome, IsSome, IsTrue, MatchResult};
 ghost use Rattle.std.specs.List.{All};
 ghost use Rattle.mg_block.specs.Block.{Precedes};
-ghost use Rattle.mg_table.specs.Index.{index_bytes, place_bytes, FitsFields, IsIndexFrom, IsIndexUnfit, IsItemAt, IsItemUnfit, IsPlace, MayFollow};
-ghost use Rattle.mg_table.specs.declared.index.BlockPlace.{BlockPlace};
+ghost use Rattle.mg_table.specs.Index.{index_bytes, handle_bytes, FitsFields, IsIndexFrom, IsIndexUnfit, IsItemAt, IsItemUnfit, IsHandle, MayFollow};
+ghost use Rattle.mg_table.specs.declared.index.BlockHandle.{BlockHandle};
 
 use mg_frame::{put_short, put_u32, put_u64, split_short, split_u32, split_u64};
 use mg_items::Items;
-use mg_model::{Fault, FileId, Key};
-use mg_sealed::check_numbers;
+use mg_sealed::check_offset;
+use mg_types::{Fault, FileId, Key};
 use std::alloc::{AllocError, Global};
 use std::cmp::Ordering;
 
 /// Where a block's frame stands, and the first key of the block.
 #[derive(Debug, Drop)]
-pub struct BlockPlace {
+pub struct BlockHandle {
     pub key: Items<u8>,
     pub at: u64,
     /// The whole length of the frame in bytes.
@@ -23,24 +23,24 @@ pub struct BlockPlace {
 }
 
 /// Appends one item of the index, or a front of it for want of memory.
-#[tactic(auto, unfolding(crate::specs::Index::place_bytes))]
-fn put_place(place: &BlockPlace, out: &mut Vec<u8>) -> Result<(), AllocError>
-    requires { IsPlace place.now }
-    ensures { OnOk result (out.new.items ≡ out.old.items ++ place_bytes place.now) }
+#[tactic(auto, unfolding(crate::specs::Index::handle_bytes))]
+fn put_handle(handle: &BlockHandle, out: &mut Vec<u8>) -> Result<(), AllocError>
+    requires { IsHandle handle.now }
+    ensures { OnOk result (out.new.items ≡ out.old.items ++ handle_bytes handle.now) }
 {
-    put_short(place.key.as_slice(), out)?;
-    put_u64(place.at, out)?;
-    put_u32(place.len, out)
+    put_short(handle.key.as_slice(), out)?;
+    put_u64(handle.at, out)?;
+    put_u32(handle.len, out)
 }
 
 /// The body of the index frame.
-pub(crate) fn index_body(alloc: Global, places: &[BlockPlace]) -> Result<Vec<u8>, AllocError>
-    requires { All IsPlace places.now }
-    ensures { IfOk result (λ body. body.items ≡ index_bytes places.now) }
+pub(crate) fn index_body(alloc: Global, handles: &[BlockHandle]) -> Result<Vec<u8>, AllocError>
+    requires { All IsHandle handles.now }
+    ensures { IfOk result (λ body. body.items ≡ index_bytes handles.now) }
 {
     let mut body = Vec::new(alloc);
-    for place in places {
-        put_place(place, &mut body)?;
+    for handle in handles {
+        put_handle(handle, &mut body)?;
     }
     Ok(body)
 }
@@ -54,14 +54,14 @@ struct Item<'a> {
 }
 
 /// The item of the index at the front of the bytes, and what follows it.
-#[tactic(auto, unfolding(crate::specs::Index::place_bytes))]
+#[tactic(auto, unfolding(crate::specs::Index::handle_bytes))]
 fn split_item(bytes: &[u8]) -> Option<(Item<'_>, &[u8])>
     ensures split { IfSome result (λ split.
-        bytes.now ≡ place_bytes (record { key = split.0.key.now; at = split.0.at; len = split.0.len }) ++ split.1.now) }
+        bytes.now ≡ handle_bytes (record { key = split.0.key.now; at = split.0.at; len = split.0.len }) ++ split.1.now) }
     ensures fits { IfSome result (λ split. FitsFields (record { key = split.0.key.now; at = split.0.at; len = split.0.len })) }
-    ensures written { (place : BlockPlace) (rest : List ℕ) → FitsFields place → bytes.now ≡ place_bytes place ++ rest →
+    ensures written { (handle : BlockHandle) (rest : List ℕ) → FitsFields handle → bytes.now ≡ handle_bytes handle ++ rest →
         IsSome result × IfSome result (λ split.
-        (split.0.key.now ≡ place.key) × (split.0.at ≡ place.at) × (split.0.len ≡ place.len) × (split.1.now ≡ rest)) }
+        (split.0.key.now ≡ handle.key) × (split.0.at ≡ handle.at) × (split.0.len ≡ handle.len) × (split.1.now ≡ rest)) }
 {
     let (key, rest) = split_short(bytes)?;
     let (at, rest) = split_u64(rest)?;
@@ -83,28 +83,23 @@ fn judge_item(id: FileId, at: u64, previous: &[u8], end: u64, item: Item<'_>) ->
         (λ _. IsItemAt previous.now end (record { key = item.entry.key.now; at = item.entry.at; len = item.entry.len }))
         (λ fault. IsItemUnfit id at previous.now end (record { key = item.entry.key.now; at = item.entry.at; len = item.entry.len }) fault) }
 {
-    let malformed = Fault::Malformed { file: id, at };
     if !may_follow(previous, item.key) {
-        return Err(malformed);
+        return Err(Fault::Malformed { file: id, at });
     }
-    check_numbers(id, at, &[item.at])?;
-    if item.at != end {
-        return Err(malformed);
-    }
-    Ok(())
+    check_offset(id, at, end, item.at)
 }
 
-/// The index of this body, which stands at a place of a file: first keys strictly rise, and the blocks' frames stand one after
-/// the other, from the front of the file to that place.
+/// The index of this body, which stands at this offset of a file: first keys strictly rise, and the blocks' frames stand one after
+/// the other, from the front of the file to that offset.
 pub(crate) fn read_index_body(
     alloc: Global,
     id: FileId,
     at: u64,
     body: &[u8],
-) -> Result<Items<BlockPlace>, Fault>
+) -> Result<Items<BlockHandle>, Fault>
     requires { at < 2 ^ 62 }
-    ensures written { (places : List BlockPlace) → IsIndexFrom [] 0 places at → body.now ≡ index_bytes places →
-        MatchResult result (λ index. index ≡ places) (λ fault. fault ≡ Fault.NoMemory) }
+    ensures written { (handles : List BlockHandle) → IsIndexFrom [] 0 handles at → body.now ≡ index_bytes handles →
+        MatchResult result (λ index. index ≡ handles) (λ fault. fault ≡ Fault.NoMemory) }
     ensures is_index { IfOk result (λ index. IsIndexFrom [] 0 index at × (body.now ≡ index_bytes index)) }
     ensures refusals { IfErr result (λ fault. (fault ≡ Fault.NoMemory) ⊎ IsIndexUnfit id at body.now fault) }
 {
@@ -115,7 +110,7 @@ pub(crate) fn read_index_body(
     while let Some((item, behind)) = split_item(rest) {
         judge_item(id, at, previous, end, item)?;
         let key = Items::from_slice(alloc, item.key)?;
-        index.push(BlockPlace {
+        index.push(BlockHandle {
             key,
             at: item.at,
             len: item.len,

@@ -1,11 +1,13 @@
 //! Tables: sealed files of entries in rising order of their keys, from a key to the number and size of its newest mutation.
 //!
-//! A table is block frames, an index frame, a filter frame and a foot frame. It is a function of its list of entries and
+//! A table is block frames, an index frame, a filter frame and a footer frame. It is a function of its list of entries and
 //! its interval of sequence numbers.
 #![tactic(auto)]
 
+mod checks;
 mod entry;
-mod foot;
+mod filters;
+mod footer;
 mod index;
 pub mod laws;
 mod load;
@@ -15,10 +17,7 @@ mod table;
 mod tests;
 mod writer;
 
-pub use entry::Entry;
-pub use foot::Foot;
-pub use index::BlockPlace;
-pub use load::load_table;
-pub use reading::{find, find_hashed, scan};
+pub use footer::Footer;
+pub use index::BlockHandle;
 pub use table::Table;
-pub use writer::{TableWriter, finish_table, push_entry, start_table};
+pub use writer::TableWriter;

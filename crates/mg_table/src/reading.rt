@@ -1,77 +1,147 @@
 //! Finding an entry, and listing all.
 
-ghost use Rattle.std.specs.Prelude.{◌≡◌, ◌-◌, ◌<◌, ◌≤◌, ◌⊎◌, List, ◌++◌, length, map, All, HoldsAt, IfSome, IfErr, IfOk, OnOk, MatchOption, MatchResult, None, Ok};
+ghost use Rattle.std.specs.Prelude.{◌≡◌, ◌-◌, ◌<◌, ◌≤◌, ◌⊎◌, ◌↔◌, IsTrue, List, ◌++◌, length, map, All, HoldsAt, IfSome, IfErr, IfOk, OnOk, MatchOption, MatchResult, None, Ok};
 ghost use Rattle.mg_block.specs.Block.{IsBlock, Precedes};
 ghost use Rattle.mg_block.specs.Search.{Finds, Misses};
 ghost use Rattle.mg_bloom.specs.Bloom.{key_words};
 ghost use Rattle.mg_faults.specs.Causes.{HasCause};
 ghost use Rattle.mg_sealed.specs.Answers.{Answers, IsOutside};
 ghost use Rattle.mg_sealed.specs.Blocks.{IsUnfitAt};
-ghost use Rattle.mg_sealed.specs.Filling.{items_of};
-ghost use Rattle.mg_table.specs.Entries.{pair_of, payload_of, IsEntry};
-ghost use Rattle.mg_table.specs.Index.{places_from};
-ghost use Rattle.mg_table.specs.Reading.{entry_of, AreRead, HasUnfit, IsFindRead, IsFindRefused, IsListUnfit, IsPayloadRefused, IsScanRefused, IsSearchUnfit, IsSoughtIn, IsSoughtNowhere};
-ghost use Rattle.mg_table.specs.Table.{IsTableOf, Stands};
-ghost use Rattle.mg_table.specs.declared.entry.Entry.{Entry};
+ghost use Rattle.mg_sealed.specs.Filling.{items_of, AreFilled};
+ghost use Rattle.mg_table.specs.Entries.{block_body, pair_of, payload_of, AreEntries};
+ghost use Rattle.mg_types.specs.Items.{IsEntry};
+ghost use Rattle.mg_table.specs.Index.{handles_from};
+ghost use Rattle.mg_table.specs.Loading.{IsRead};
+ghost use Rattle.mg_table.specs.Reading.{entry_of, AreRead, BeginsWithKey, HasUnfit, IsFindRead, IsFindRefused, IsListUnfit, IsPayloadRefused, IsScanRefused, IsSearchUnfit, IsSoughtIn, IsSoughtNowhere};
+ghost use Rattle.mg_table.specs.Scanning.{AreCounted};
+ghost use Rattle.mg_table.specs.Table.{IsTableBut, IsTableOf, Represents};
+ghost use Rattle.mg_types.specs.declared.items.Entry.{Entry};
 
-use crate::entry::{Entry, Payload, Refused, take_payload};
-use crate::index::BlockPlace;
+use crate::checks::{check_block, check_counts};
+use crate::entry::{Payload, Refused, take_payload};
+use crate::index::BlockHandle;
+use crate::load::FOOTER_LEN;
 use crate::table::Table;
 use mg_block::BlockCursor;
 use mg_bloom::HashedKey;
-use mg_disk::Files;
 use mg_items::Items;
-use mg_model::{Fault, FileId, Key};
-use mg_sealed::{NUMBER_LIMIT, read_block};
+use mg_sealed::{BLOCK_LIMIT, Blocks, malformed};
+use mg_types::{Entry, Fault, FileId, Key, NUMBER_LIMIT};
 use std::alloc::Global;
 use std::cmp::Ordering;
+use std::mem;
 
-/// The entry of a key.
-///
-/// It hashes the key. Where the filter denies it nothing is read, and else one block. It takes memory for a block and the
-/// key. A block that is not as it was written is damaged or malformed.
-pub fn find<F: Files>(
-    alloc: Global,
-    port: &mut F,
-    table: &Table<F::Sealed>,
-    key: &Key,
-) -> Result<Option<Entry>, Fault>
-    ensures found { IfSome (F.told table.now.file.file) (λ _. (entries : List Entry) → Stands F.told table.now entries →
-        Answers (Ok (entry_of key.now entries)) result) }
-    ensures read { IfOk result (λ found. IfSome (F.told table.now.file.file) (λ bytes. table.now.file.len ≡ length bytes →
-        IsFindRead table.now bytes key.now found)) }
-    ensures refusals { IfErr result (λ fault. IsOutside fault ⊎ HasUnfit table.now fault) }
-    ensures causes { IfErr result (λ fault. IfSome (F.told table.now.file.file) (λ bytes. table.now.file.len ≡ length bytes →
-        IsOutside fault ⊎ IsFindRefused table.now bytes key.now fault)) }
-    ensures cause { HasCause Fault.ReadFault (F.faults port.old) (F.faults port.new) result }
-{
-    find_hashed(alloc, port, table, key, &HashedKey::new(key.bytes()))
-}
+impl<S: Drop> Table<S> {
+    /// The entry of a key.
+    ///
+    /// It hashes the key. Where the filter denies it nothing is read, and else one block, as far as the first key that is not
+    /// below this one: what stands behind that one is not looked at. It takes memory for a block and the key. A block that is
+    /// not as it was written is damaged or malformed, and so is one that does not begin with the key that the index says.
+    pub fn find<F: Blocks<Sealed = S>>(
+        &self,
+        alloc: Global,
+        port: &mut F,
+        key: &Key,
+    ) -> Result<Option<Entry>, Fault>
+        ensures found { IfSome (F.Files.told self.now.file.file) (λ _. (entries : List Entry) → Represents F.Files.told self.now entries →
+            Answers (Ok (entry_of key.now entries)) result) }
+        ensures read { IfOk result (λ found. IfSome (F.Files.told self.now.file.file) (λ bytes. self.now.file.len ≡ length bytes →
+            IsFindRead self.now bytes key.now found)) }
+        ensures refusals { IfErr result (λ fault. IsOutside fault ⊎ HasUnfit self.now fault) }
+        ensures causes { IfErr result (λ fault. IfSome (F.Files.told self.now.file.file) (λ bytes. self.now.file.len ≡ length bytes →
+            IsOutside fault ⊎ IsFindRefused self.now bytes key.now fault)) }
+        ensures cause { HasCause Fault.ReadFault (F.Files.faults port.old) (F.Files.faults port.new) result }
+    {
+        let mut buffer = Vec::new(alloc);
+        self.find_hashed(alloc, port, key, &HashedKey::new(key.bytes()), &mut buffer)
+    }
 
-/// `find` of a key that is hashed already.
-pub fn find_hashed<F: Files>(
-    alloc: Global,
-    port: &mut F,
-    table: &Table<F::Sealed>,
-    key: &Key,
-    hashed: &HashedKey,
-) -> Result<Option<Entry>, Fault>
-    requires { hashed.now ≡ key_words key.now }
-    ensures found { IfSome (F.told table.now.file.file) (λ _. (entries : List Entry) → Stands F.told table.now entries →
-        Answers (Ok (entry_of key.now entries)) result) }
-    ensures read { IfOk result (λ found. IfSome (F.told table.now.file.file) (λ bytes. table.now.file.len ≡ length bytes →
-        IsFindRead table.now bytes key.now found)) }
-    ensures refusals { IfErr result (λ fault. IsOutside fault ⊎ HasUnfit table.now fault) }
-    ensures causes { IfErr result (λ fault. IfSome (F.told table.now.file.file) (λ bytes. table.now.file.len ≡ length bytes →
-        IsOutside fault ⊎ IsFindRefused table.now bytes key.now fault)) }
-    ensures cause { HasCause Fault.ReadFault (F.faults port.old) (F.faults port.new) result }
-{
-    let Some(number) = block_for(table, key, hashed) else {
-        return Ok(None);
-    };
-    let place = &table.index.as_slice()[number];
-    let frame = read_block(alloc, port, &table.file, place.at, place.len, number as u64)?;
-    find_in_block(alloc, table.file.id, place.at, frame.body(), key)
+    /// `find` of a key that is hashed already, with a buffer that is lent for the block. After an error the buffer may be empty.
+    pub fn find_hashed<F: Blocks<Sealed = S>>(
+        &self,
+        alloc: Global,
+        port: &mut F,
+        key: &Key,
+        hashed: &HashedKey,
+        buffer: &mut Vec<u8>,
+    ) -> Result<Option<Entry>, Fault>
+        requires { hashed.now ≡ key_words key.now }
+        ensures found { IfSome (F.Files.told self.now.file.file) (λ _. (entries : List Entry) → Represents F.Files.told self.now entries →
+            Answers (Ok (entry_of key.now entries)) result) }
+        ensures read { IfOk result (λ found. IfSome (F.Files.told self.now.file.file) (λ bytes. self.now.file.len ≡ length bytes →
+            IsFindRead self.now bytes key.now found)) }
+        ensures refusals { IfErr result (λ fault. IsOutside fault ⊎ HasUnfit self.now fault) }
+        ensures causes { IfErr result (λ fault. IfSome (F.Files.told self.now.file.file) (λ bytes. self.now.file.len ≡ length bytes →
+            IsOutside fault ⊎ IsFindRefused self.now bytes key.now fault)) }
+        ensures cause { HasCause Fault.ReadFault (F.Files.faults port.old) (F.Files.faults port.new) result }
+    {
+        let Some(number) = block_for(self, key, hashed) else {
+            return Ok(None);
+        };
+        let lent = mem::replace(buffer, Vec::new(alloc));
+        let handle = &self.index.as_slice()[number];
+        let frame = port.block(
+            alloc,
+            &self.file,
+            handle.at,
+            handle.len,
+            number as u64,
+            lent,
+        )?;
+        check_first(self.file.id, handle, frame.body())?;
+        let found = find_in_block(alloc, self.file.id, handle.at, frame.body(), key);
+        *buffer = frame.into_buffer();
+        found
+    }
+
+    /// All entries, in rising order of their keys.
+    ///
+    /// It reads block after block, and takes memory for one block and for all entries. A block that is not as it was written is
+    /// damaged or malformed, and one that is not the next of the table by its first key, its order or its filling is malformed;
+    /// the footer is, where it says another number of entries or another sum of their sizes.
+    pub fn scan<F: Blocks<Sealed = S>>(
+        &self,
+        alloc: Global,
+        port: &mut F,
+    ) -> Result<Items<Entry>, Fault>
+        ensures listed { IfSome (F.Files.told self.now.file.file) (λ _. (entries : List Entry) → Represents F.Files.told self.now entries →
+            Answers (Ok entries) result) }
+        ensures right { IfOk result (λ entries. AreEntries entries × AreCounted self.now.footer entries) }
+        ensures read { IfOk result (λ entries. IfSome (F.Files.told self.now.file.file) (λ bytes. self.now.file.len ≡ length bytes →
+            (blocks : List (List Entry)) × AreRead self.now.file.id bytes 0 self.now.index blocks × AreFilled block_body blocks
+            × (entries ≡ items_of blocks))) }
+        ensures whole { IfOk result (λ entries. IfSome (F.Files.told self.now.file.file) (λ bytes. self.now.file.len ≡ length bytes →
+            IsRead self.now.file.id bytes self.now → IsTableBut bytes self.now.footer.lo self.now.footer.hi entries self.now.filter)) }
+        ensures refusals { IfErr result (λ fault. IsOutside fault ⊎ HasUnfit self.now fault
+            ⊎ (fault ≡ Fault.Malformed self.now.file.id (self.now.file.len - 73))) }
+        ensures causes { IfErr result (λ fault. IfSome (F.Files.told self.now.file.file) (λ bytes. self.now.file.len ≡ length bytes →
+            IsOutside fault ⊎ IsScanRefused self.now bytes fault)) }
+        ensures cause { HasCause Fault.ReadFault (F.Files.faults port.old) (F.Files.faults port.new) result }
+    {
+        let mut entries = Items::new(alloc);
+        let mut buffer = Vec::new(alloc);
+        let mut len = BLOCK_LIMIT;
+        for number in 0..self.index.len() {
+            let handle = &self.index.as_slice()[number];
+            let frame = port.block(
+                alloc,
+                &self.file,
+                handle.at,
+                handle.len,
+                number as u64,
+                buffer,
+            )?;
+            let listed = entries.len();
+            let size = frame.body().len();
+            list_block(alloc, self.file.id, handle.at, frame.body(), &mut entries)?;
+            check_block(self.file.id, handle, entries.as_slice(), listed, len, size)?;
+            len = size;
+            buffer = frame.into_buffer();
+        }
+        let footer_at = self.file.len.saturating_sub(FOOTER_LEN);
+        check_counts(self.file.id, footer_at, &self.footer, entries.as_slice())?;
+        Ok(entries)
+    }
 }
 
 /// The number of the only block that may have a key. None has it where the filter denies it, or where it is below the first.
@@ -81,7 +151,7 @@ fn block_for<S>(table: &Table<S>, key: &Key, hashed: &HashedKey) -> Option<usize
         (IsSoughtNowhere table.now key.now)
         (λ number. IsSoughtIn table.now key.now number) }
     ensures only { (entries : List Entry) (blocks : List (List Entry)) →
-        IsTableOf table.now.foot.lo table.now.foot.hi entries blocks table.now.filter → table.now.index ≡ places_from 0 blocks →
+        IsTableOf table.now.footer.lo table.now.footer.hi entries blocks table.now.filter → table.now.index ≡ handles_from 0 blocks →
         MatchOption result
         (entry_of key.now entries ≡ None)
         (λ number. HoldsAt (λ block. entry_of key.now entries ≡ entry_of key.now block) blocks number) }
@@ -93,10 +163,10 @@ fn block_for<S>(table: &Table<S>, key: &Key, hashed: &HashedKey) -> Option<usize
 }
 
 /// A number of blocks, of which the last begins with no key above this one, and behind which a block with one above follows.
-fn blocks_up_to(index: &[BlockPlace], key: &[u8]) -> usize
+fn blocks_up_to(index: &[BlockHandle], key: &[u8]) -> usize
     ensures within { result ≤ length index.now }
-    ensures last { 0 < result → HoldsAt (λ place. Precedes key.now place.key → ⊥) index.now (result - 1) }
-    ensures following { result < length index.now → HoldsAt (λ place. Precedes key.now place.key) index.now result }
+    ensures last { 0 < result → HoldsAt (λ handle. Precedes key.now handle.key → ⊥) index.now (result - 1) }
+    ensures following { result < length index.now → HoldsAt (λ handle. Precedes key.now handle.key) index.now result }
 {
     let mut low = 0;
     let mut high = index.len();
@@ -111,7 +181,30 @@ fn blocks_up_to(index: &[BlockPlace], key: &[u8]) -> usize
     low
 }
 
-/// The entry of a key in a block, which was read at a place of a file.
+/// Whether bytes begin with a pair of this key.
+fn begins_with(block: &[u8], key: &[u8]) -> bool
+    ensures { IsTrue result ↔ BeginsWithKey block.now key.now }
+{
+    let mut cursor = BlockCursor::new(block);
+    let Ok(true) = cursor.advance() else {
+        return false;
+    };
+    cursor.key() == key
+}
+
+/// Judges the front of a block: it begins with the key that the index says, and so it has an entry.
+fn check_first(id: FileId, handle: &BlockHandle, block: &[u8]) -> Result<(), Fault>
+    ensures { MatchResult result
+        (λ _. BeginsWithKey block.now handle.now.key)
+        (λ fault. (BeginsWithKey block.now handle.now.key → ⊥) × (fault ≡ Fault.Malformed id handle.now.at)) }
+{
+    if !begins_with(block, handle.key.as_slice()) {
+        return Err(malformed(id, handle.at));
+    }
+    Ok(())
+}
+
+/// The entry of a key in a block, which was read at this offset of a file.
 fn find_in_block(
     alloc: Global,
     id: FileId,
@@ -139,7 +232,7 @@ fn find_in_block(
     }
 }
 
-/// The entry of a key and a payload in the block at a place of a file.
+/// The entry of a key and a payload in the block at this offset of a file.
 fn entry_from(id: FileId, at: u64, key: Key, payload: &[u8]) -> Result<Entry, Fault>
     ensures written { (entry : Entry) → IsEntry entry → key ≡ entry.key → payload.now ≡ payload_of entry → result ≡ Ok entry }
     ensures read { IfOk result (λ entry. (entry.key ≡ key) × IsEntry entry × (payload.now ≡ payload_of entry)) }
@@ -163,34 +256,7 @@ fn entry_from(id: FileId, at: u64, key: Key, payload: &[u8]) -> Result<Entry, Fa
     }
 }
 
-/// All entries, in rising order of their keys.
-///
-/// It reads block after block, and takes memory for one block and for all entries. A block that is not as it was written is
-/// damaged or malformed.
-pub fn scan<F: Files>(
-    alloc: Global,
-    port: &mut F,
-    table: &Table<F::Sealed>,
-) -> Result<Items<Entry>, Fault>
-    ensures listed { IfSome (F.told table.now.file.file) (λ _. (entries : List Entry) → Stands F.told table.now entries →
-        Answers (Ok entries) result) }
-    ensures read { IfOk result (λ entries. IfSome (F.told table.now.file.file) (λ bytes. table.now.file.len ≡ length bytes →
-        (blocks : List (List Entry)) × AreRead table.now.file.id bytes 0 table.now.index blocks × (entries ≡ items_of blocks))) }
-    ensures refusals { IfErr result (λ fault. IsOutside fault ⊎ HasUnfit table.now fault) }
-    ensures causes { IfErr result (λ fault. IfSome (F.told table.now.file.file) (λ bytes. table.now.file.len ≡ length bytes →
-        IsOutside fault ⊎ IsScanRefused table.now bytes fault)) }
-    ensures cause { HasCause Fault.ReadFault (F.faults port.old) (F.faults port.new) result }
-{
-    let mut entries = Items::new(alloc);
-    for number in 0..table.index.len() {
-        let place = &table.index.as_slice()[number];
-        let frame = read_block(alloc, port, &table.file, place.at, place.len, number as u64)?;
-        list_block(alloc, table.file.id, place.at, frame.body(), &mut entries)?;
-    }
-    Ok(entries)
-}
-
-/// Appends the entries of a block, which was read at a place of a file.
+/// Appends the entries of a block, which was read at this offset of a file.
 fn list_block(
     alloc: Global,
     id: FileId,

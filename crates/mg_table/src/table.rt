@@ -1,43 +1,50 @@
 //! A table as it is kept in memory.
 
 ghost use Rattle.std.specs.Prelude.{◌≡◌, All};
-ghost use Rattle.mg_table.specs.Index.{IsPlace};
+ghost use Rattle.mg_table.specs.Index.{IsHandle};
 
-use crate::foot::Foot;
-use crate::index::BlockPlace;
+use crate::footer::Footer;
+use crate::index::BlockHandle;
 use mg_bloom::Filter;
 use mg_items::Items;
 use mg_sealed::SealedFile;
 
-/// A sealed file of entries, of which the foot, the index and the filter are kept in memory, and no block.
+/// A sealed file of entries, of which the footer, the index and the filter are kept in memory, and no block.
 #[derive(Drop)]
 pub struct Table<S> {
     pub(crate) file: SealedFile<S>,
-    pub(crate) index: Items<BlockPlace>,
+    pub(crate) index: Items<BlockHandle>,
     pub(crate) filter: Filter,
-    pub(crate) foot: Foot,
-    ghost places: { All IsPlace index },
+    pub(crate) footer: Footer,
+    ghost handles: { All IsHandle index },
 }
 
 impl<S> Table<S> {
+    /// The file itself, with what faults call it and its length.
+    pub fn sealed(&self) -> &SealedFile<S>
+        ensures { result.now ≡ self.now.file }
+    {
+        &self.file
+    }
+
     /// The number of entries.
     pub fn count(&self) -> u64
-        ensures { result ≡ self.now.foot.entries }
+        ensures { result ≡ self.now.footer.entries }
     {
-        self.foot.entries
+        self.footer.entries
     }
 
     /// The sum of the entries' sizes.
     pub fn bytes(&self) -> u64
-        ensures { result ≡ self.now.foot.sizes }
+        ensures { result ≡ self.now.footer.sizes }
     {
-        self.foot.sizes
+        self.footer.sizes
     }
 
-    /// The interval of sequence numbers: above the first, up to the second.
+    /// The interval of sequence numbers, above the first and up to the second, which the writer was given as a label of the table.
     pub fn span(&self) -> (u64, u64)
-        ensures { result ≡ (self.now.foot.lo, self.now.foot.hi) }
+        ensures { result ≡ (self.now.footer.lo, self.now.footer.hi) }
     {
-        (self.foot.lo, self.foot.hi)
+        (self.footer.lo, self.footer.hi)
     }
 }

@@ -1,13 +1,16 @@
+ghost use Rattle.std.specs.Prelude.{◌≢◌, [], OnOk};
+
 use super::*;
 use mg_disk::Files;
 use mg_memdisk::{MemDraft, MemFiles, MemSealed};
-use mg_model::{Fault, FileId, Key};
+use mg_sealed::{append_frame, seal_frames, start_frames};
+use mg_types::{Entry, Fault, FileId, Key, Kind};
 use std::alloc::Global;
 use std::test::Fail;
 
 const ID: FileId = FileId {
     part: 0,
-    kind: 1,
+    kind: Kind::Table,
     number: 7,
 };
 
@@ -44,12 +47,13 @@ fn push(
     port: &mut MemFiles,
     writer: &mut TableWriter<MemDraft>,
     entry: &Entry,
-) -> Result<(), Fault> {
-    let fits = entry.seq < 1 << 62 && entry.size >= 1 && entry.size <= 1_048_826;
-    if writer.is_full() || !writer.is_above(&entry.key) || !fits {
+) -> Result<(), Fault>
+    ensures { OnOk result (writer.new.block ≢ []) }
+{
+    if writer.is_full() || !writer.is_above(&entry.key) || !entry.fits() {
         return Err(Fault::BadWords);
     }
-    push_entry(alloc, port, writer, entry)
+    writer.push(alloc, port, entry)
 }
 
 /// The worked table, where so many entries may come.
@@ -57,13 +61,10 @@ fn worked_of(alloc: Global, port: &mut MemFiles, most: u64) -> Result<Table<MemS
     if most > 1 << 32 {
         return Err(Fault::BadWords);
     }
-    let mut writer = start_table(alloc, port, ID, 0, 3, most)?;
+    let mut writer = TableWriter::new(alloc, port, ID, 0, 3, most)?;
     push(alloc, port, &mut writer, &entry(alloc, b"a", 3, 2, false)?)?;
     push(alloc, port, &mut writer, &entry(alloc, b"b", 2, 2, false)?)?;
-    if writer.is_empty() {
-        return Err(Fault::BadWords);
-    }
-    finish_table(alloc, port, writer)
+    writer.finish(alloc, port)
 }
 
 fn worked(alloc: Global, port: &mut MemFiles) -> Result<Table<MemSealed>, Fault> {
@@ -76,7 +77,7 @@ fn bytes_of(
     table: &Table<MemSealed>,
 ) -> Result<Vec<u8>, Fault> {
     let mut bytes = vec![in alloc; 0u8; 10_000]?;
-    let Ok(count) = port.read(alloc, &table.file.file, 0, &mut bytes) else {
+    let Ok(count) = port.read(alloc, &table.sealed().file, 0, &mut bytes) else {
         return Err(Fault::ReadFault);
     };
     bytes.truncate(count);
@@ -96,19 +97,6 @@ fn a_table_is_the_worked_one(rt: HostRuntime) -> Result<(), Fail> {
         assert_eq!(rt;
             bytes_of(alloc, &mut port, &table)?.as_slice(),
             WORKED.as_slice(),
-            "where {most} may come"
-        );
-    }
-    Ok(())
-}
-
-#[test]
-fn no_more_entries_find_room_than_may_come(rt: HostRuntime) -> Result<(), Fail> {
-    let mut port = MemFiles::new(Vec::new(rt.alloc()));
-    for most in [0, 1] {
-        let table = worked_of(rt.alloc(), &mut port, most);
-        assert!(rt;
-            matches!(table, Err(Fault::BadWords)),
             "where {most} may come"
         );
     }
@@ -136,7 +124,7 @@ fn load(
     if len >= 1 << 62 {
         return Err(Fault::BadWords);
     }
-    load_table(alloc, port, ID, file, len)
+    Table::load(alloc, port, ID, file, len)
 }
 
 #[test]
@@ -148,9 +136,9 @@ fn the_worked_table_is_loaded(rt: HostRuntime) -> Result<(), Fail> {
     assert_eq!(rt; table.bytes(), 4);
     assert_eq!(rt; table.span(), (0, 3));
     assert_eq!(rt; table.index.len(), 1);
-    let place = &table.index.as_slice()[0];
-    assert_eq!(rt; place.key.as_slice(), b"a".as_slice());
-    assert_eq!(rt; (place.at, place.len), (0, 54));
+    let handle = &table.index.as_slice()[0];
+    assert_eq!(rt; handle.key.as_slice(), b"a".as_slice());
+    assert_eq!(rt; (handle.at, handle.len), (0, 54));
     assert_eq!(rt;
         table.filter.bytes(),
         [0x21, 0x24, 0x44, 0, 0x20, 0x40, 0x1c, 1].as_slice()
@@ -168,7 +156,7 @@ fn found(
     let Some(key) = Key::new(alloc, key)? else {
         return Err(Fault::BadWords);
     };
-    let entry = find(alloc, port, table, &key)?;
+    let entry = table.find(alloc, port, &key)?;
     Ok(entry.map(|entry| (entry.seq, entry.size, entry.gone)))
 }
 
@@ -181,7 +169,7 @@ fn the_worked_table_answers(rt: HostRuntime) -> Result<(), Fail> {
     assert!(rt; found(alloc, &mut port, &table, b"b")? == Some((2, 2, false)));
     assert!(rt; found(alloc, &mut port, &table, b"c")?.is_none());
     assert!(rt; found(alloc, &mut port, &table, b"A")?.is_none());
-    let all = scan(alloc, &mut port, &table)?;
+    let all = table.scan(alloc, &mut port)?;
     assert_eq!(rt; all.len(), 2);
     for (entry, (key, seq)) in all
         .as_slice()
@@ -191,6 +179,23 @@ fn the_worked_table_answers(rt: HostRuntime) -> Result<(), Fail> {
         assert_eq!(rt; entry.key.bytes(), key);
         assert_eq!(rt; entry.seq, seq);
     }
+    Ok(())
+}
+
+#[test]
+fn a_load_reads_no_block_and_a_find_reads_one(rt: HostRuntime) -> Result<(), Fail> {
+    let alloc = rt.alloc();
+    // Three calls write the file, one asks for its length, and three read footer, index and filter.
+    let mut port = MemFiles::new(Vec::from_array(alloc, [8, 10])?);
+    let table = load(alloc, &mut port, &WORKED, 189)?;
+    assert_eq!(rt; table.sealed().len, 189);
+    let failed = found(alloc, &mut port, &table, b"a");
+    assert!(rt; matches!(failed, Err(Fault::ReadFault)));
+    assert!(rt; found(alloc, &mut port, &table, b"a")? == Some((3, 2, false)));
+    // No block begins with a key up to this one, so that none is read.
+    assert!(rt; found(alloc, &mut port, &table, b"A")?.is_none());
+    let failed = found(alloc, &mut port, &table, b"b");
+    assert!(rt; matches!(failed, Err(Fault::ReadFault)));
     Ok(())
 }
 
@@ -209,7 +214,7 @@ fn is_worked(entries: &[Entry]) -> bool {
 fn is_refused_or_worked(alloc: Global, bytes: &[u8], len: u64) -> bool {
     let mut port = MemFiles::new(Vec::new(alloc));
     let entries = match load(alloc, &mut port, bytes, len) {
-        Ok(table) => scan(alloc, &mut port, &table),
+        Ok(table) => table.scan(alloc, &mut port),
         Err(fault) => Err(fault),
     };
     match entries {
@@ -232,25 +237,75 @@ fn each_altered_byte_is_refused_or_changes_nothing(rt: HostRuntime) {
     }
 }
 
-#[test]
-fn each_cut_is_refused(rt: HostRuntime) -> Result<(), Fail> {
-    let alloc = rt.alloc();
-    for len in 0..WORKED.len() {
-        let mut port = MemFiles::new(Vec::new(alloc));
-        let cut = load(alloc, &mut port, &WORKED[..len], len as u64);
-        assert!(rt;
-            matches!(cut, Err(Fault::Damaged { .. } | Fault::Malformed { .. })),
-            "cut at {len}"
-        );
-        let kept = load(alloc, &mut port, &WORKED[..len], 189);
-        let damaged = Fault::Damaged {
-            file: ID,
-            at: 0,
-            kept: 189,
-            found: len as u64,
-        };
-        assert_eq!(rt; kept.err(), Some(damaged), "cut at {len}");
+/// How many entries are listed of the file of frames whose bodies have these lengths, and whether its filter is theirs.
+fn scanned(alloc: Global, bodies: &[u8], lens: &[usize]) -> Result<(usize, bool), Fault> {
+    let mut port = MemFiles::new(Vec::new(alloc));
+    let mut writer = start_frames(alloc, &mut port)?;
+    let mut at = 0usize;
+    for len in lens {
+        let len = *len;
+        if at > 1_000 || len > 100 || bodies.len() < at + len || writer.len() > 10_000 {
+            return Err(Fault::BadWords);
+        }
+        append_frame(alloc, &mut port, &mut writer, &bodies[at..at + len])?;
+        at += len;
     }
+    let len = writer.len();
+    if len > 10_000 {
+        return Err(Fault::BadWords);
+    }
+    let file = seal_frames(alloc, &mut port, writer, ID)?;
+    let table = Table::load(alloc, &mut port, ID, file.file, len)?;
+    let entries = table.scan(alloc, &mut port)?;
+    let right = table.has_filter_of(alloc, entries.as_slice())?;
+    Ok((entries.len(), right))
+}
+
+/// The bytes with another one at a place.
+fn altered(alloc: Global, bytes: &[u8], at: usize, byte: u8) -> Result<Vec<u8>, Fault> {
+    let mut altered = bytes.to_vec(alloc)?;
+    if at < altered.len() {
+        altered[at] = byte;
+    }
+    Ok(altered)
+}
+
+#[test]
+fn frames_of_no_table_are_refused(rt: HostRuntime) -> Result<(), Fail> {
+    let alloc = rt.alloc();
+    let malformed = |at| Err(Fault::Malformed { file: ID, at });
+    // The bodies of the worked table's frames: the block from 0, the index from 34, the filter from 48, the footer from 56.
+    let mut bodies = WORKED[12..46].to_vec(alloc)?;
+    bodies.extend_from_slice(&WORKED[66..80])?;
+    bodies.extend_from_slice(&WORKED[100..108])?;
+    bodies.extend_from_slice(&WORKED[128..181])?;
+    let rows: [(usize, u8, Result<(usize, bool), Fault>); 7] = [
+        (0, 0, Ok((2, true))),
+        // A bit of the filter, the footer's count and its sum, the first key in the index.
+        (55, 3, Ok((2, false))),
+        (64, 3, malformed(116)),
+        (72, 5, malformed(116)),
+        (35, b'A', malformed(0)),
+        // The number 0, and a key twice.
+        (11, 0, malformed(0)),
+        (19, b'a', malformed(0)),
+    ];
+    for (at, byte, answer) in rows {
+        let changed = altered(alloc, &bodies, at, byte)?;
+        let seen = scanned(alloc, &changed, &[34, 14, 8, 53]);
+        assert!(rt; seen == answer, "byte {at}");
+    }
+    // Two blocks where one would do: the index has both, and the footer says two.
+    let mut two = WORKED[12..46].to_vec(alloc)?;
+    two.extend_from_slice(&[
+        1, b'a', 0, 0, 0, 0, 0, 0, 0, 0, 0, 0, 0, 37, 1, b'b', 0, 0, 0, 0, 0, 0, 0, 37, 0, 0, 0, 37,
+    ])?;
+    two.extend_from_slice(&WORKED[100..108])?;
+    two.extend_from_slice(&WORKED[128..181])?;
+    let two = altered(alloc, &two, 70 + 40, 74)?;
+    let two = altered(alloc, &two, 70 + 48, 122)?;
+    let two = altered(alloc, &two, 70 + 52, 2)?;
+    assert!(rt; scanned(alloc, &two, &[17, 17, 28, 8, 53]) == malformed(37));
     Ok(())
 }
 
@@ -271,7 +326,7 @@ fn key_of(number: u64) -> [u8; 20] {
 fn each_of_many_keys_is_found_and_no_other(rt: HostRuntime) -> Result<(), Fail> {
     let alloc = rt.alloc();
     let mut port = MemFiles::new(Vec::new(alloc));
-    let mut writer = start_table(alloc, &mut port, ID, 0, 300, 5_000)?;
+    let mut writer = TableWriter::new(alloc, &mut port, ID, 0, 300, 5_000)?;
     for number in 0..300u64 {
         let entry = entry(alloc, &key_of(2 * number), number + 1, 23, number % 3 == 0)?;
         push(alloc, &mut port, &mut writer, &entry)?;
@@ -279,7 +334,7 @@ fn each_of_many_keys_is_found_and_no_other(rt: HostRuntime) -> Result<(), Fail> 
     if writer.is_empty() {
         return Err(Fault::BadWords)?;
     }
-    let table = finish_table(alloc, &mut port, writer)?;
+    let table = writer.finish(alloc, &mut port)?;
     // Made by another program: 5,933 bytes, of which the first block's frame has the most.
     assert_eq!(rt; bytes_of(alloc, &mut port, &table)?.len(), 5_933);
     assert_eq!(rt; table.index.len(), 2);
@@ -289,6 +344,6 @@ fn each_of_many_keys_is_found_and_no_other(rt: HostRuntime) -> Result<(), Fail> 
         let between = found(alloc, &mut port, &table, &key_of(2 * number + 1))?;
         assert!(rt; between.is_none(), "{number}");
     }
-    assert_eq!(rt; scan(alloc, &mut port, &table)?.len(), 300);
+    assert_eq!(rt; table.scan(alloc, &mut port)?.len(), 300);
     Ok(())
 }

@@ -1,51 +1,54 @@
 //! Writing a table, entry by entry.
 
-ghost use Rattle.std.specs.Prelude.{◌≡◌, ◌≢◌, ◌+◌, ◌-◌, ◌*◌, ◌≤◌, ◌<◌, ◌^◌, ◌↔◌, ℕ, List, [], ◌∷◌, ◌++◌, length, map, IsTrue, IfOk, IfErr, OnOk, OnErr};
+ghost use Rattle.std.specs.Prelude.{◌≡◌, ◌≢◌, ◌+◌, ◌*◌, ◌≤◌, ◌<◌, ◌^◌, ◌⊎◌, ◌↔◌, ℕ, List, [], ◌∷◌, ◌++◌, length, map, IsTrue, IfOk, IfErr, MatchResult, OnOk, OnErr};
 ghost use Rattle.mg_block.specs.Block.{block_of, Follows, Precedes};
 ghost use Rattle.mg_block.specs.View.{last_pair};
 ghost use Rattle.mg_bloom.specs.Bloom.{bit_count, IsBitCountFor};
 ghost use Rattle.mg_bloom.specs.Folding.{KeepsWords};
 ghost use Rattle.mg_faults.specs.Causes.{HasCause};
 ghost use Rattle.mg_sealed.specs.Answers.{IsUnwritten};
-ghost use Rattle.mg_table.specs.Entries.{block_body, first_key, pair_of, payload_of, IsEntry};
-ghost use Rattle.mg_table.specs.Table.{Stands};
-ghost use Rattle.mg_table.specs.Writing.{Fills, HasBlocks, HasEntries, HasRoom, IsReady};
-ghost use Rattle.mg_table.specs.declared.entry.Entry.{Entry};
+ghost use Rattle.mg_table.specs.Entries.{block_body, first_key, pair_of, payload_of};
+ghost use Rattle.mg_types.specs.Items.{IsEntry};
+ghost use Rattle.mg_table.specs.Table.{Represents};
+ghost use Rattle.mg_table.specs.Writing.{index_length, Fills, HasBlocks, HasEntries, HasRoom, IsFull, IsReady};
+ghost use Rattle.mg_types.specs.declared.items.Entry.{Entry};
 
-use crate::entry::{Entry, put_payload};
-use crate::foot::{Foot, foot_body};
-use crate::index::{BlockPlace, index_body};
+use crate::entry::put_payload;
+use crate::footer::{Footer, footer_body};
+use crate::index::{BlockHandle, index_body};
 use crate::table::Table;
 use mg_block::BlockBuilder;
 use mg_bloom::Filter;
 use mg_disk::Files;
+use mg_frame::FRAME_OVERHEAD;
 use mg_items::Items;
-use mg_model::{Fault, FileId, Key};
-use mg_sealed::{FrameWriter, append_frame, seal_frames, start_frames};
+use mg_sealed::{BLOCK_LIMIT, FrameWriter, append_frame, grown, seal_frames, start_frames};
+use mg_types::{Entry, Fault, FileId, Key};
 use std::alloc::{AllocError, Global};
 use std::marker::Model;
 
-/// A block is closed when the next item would bring it above so many bytes.
-const BLOCK_LIMIT: usize = 4_096;
-
-/// Before so many blocks are closed there is room for an entry.
-const BLOCKS: u64 = (1 << 23) - 2;
+/// The bytes of an item of the index beside its key.
+const HANDLE_OVERHEAD: u64 = 13;
 
 /// The blocks that were closed.
 #[derive(Drop)]
 struct Closed<D> {
     frames: FrameWriter<D>,
-    index: Items<BlockPlace>,
+    index: Items<BlockHandle>,
+    /// How many bytes the body of the index has.
+    index_len: u64,
 }
 
 impl<D> Model for Closed<D> {
+    ghost use Rattle.std.specs.Prelude.{◌≡◌, length};
+    ghost use Rattle.mg_table.specs.Index.{index_bytes};
     ghost use Rattle.mg_table.specs.Writing.{ClosedBlocks, AreBounded};
 
     ghost Value = { ClosedBlocks D };
 
     ghost view = { λ c. record { frames = c.frames; index = c.index } };
 
-    ghost invariant = { λ c. AreBounded (record { frames = c.frames; index = c.index }) };
+    ghost invariant = { λ c. AreBounded (record { frames = c.frames; index = c.index }) × (c.index_len ≡ length (index_bytes c.index)) };
 }
 
 /// A table in writing.
@@ -80,11 +83,11 @@ impl<D> Model for TableWriter<D> {
 }
 
 impl<D> TableWriter<D> {
-    /// Whether there is no room for an entry more: as many as may come are in it, or too many blocks are closed.
+    /// Whether as many entries are in it as may come.
     pub fn is_full(&self) -> bool
-        ensures { IsTrue result ↔ ¬ HasRoom self.now }
+        ensures { IsTrue result ↔ (self.now.most ≤ self.now.count) }
     {
-        self.closed.frames.count() >= BLOCKS || self.count >= self.most
+        self.count >= self.most
     }
 
     /// Whether the key is above those of all entries that were put in.
@@ -102,47 +105,158 @@ impl<D> TableWriter<D> {
     }
 }
 
-/// A table without an entry, over the interval above `lo` up to `hi`. At most `most` entries may be put in.
-/// `TableWriter` says what a bound costs that is far above their number.
-pub fn start_table<F: Files>(
-    alloc: Global,
-    port: &mut F,
-    id: FileId,
-    lo: u64,
-    hi: u64,
-    most: u64,
-) -> Result<TableWriter<F::Draft>, Fault>
-    requires from { lo < 2 ^ 62 }
-    requires to { hi < 2 ^ 62 }
-    requires most { most ≤ 2 ^ 32 }
-    ensures empty { IfOk result (λ writer. HasEntries F.drafted writer []) }
-    ensures span { IfOk result (λ writer. (writer.lo ≡ lo) × (writer.hi ≡ hi) × (writer.id ≡ id)) }
-    ensures most { IfOk result (λ writer. writer.most ≡ most) }
-    ensures outside { IfErr result (λ fault. IsUnwritten fault) }
-    ensures cause { HasCause Fault.WriteFault (F.faults port.old) (F.faults port.new) result }
-{
-    let filter = Filter::sized(alloc, most)?;
-    let frames = start_frames(alloc, port)?;
-    let closed = Closed {
-        frames,
-        index: Items::new(alloc),
-    };
-    Ok(TableWriter {
-        id,
-        lo,
-        hi,
-        closed,
-        block: BlockBuilder::new(alloc),
-        first_key: Vec::new(alloc),
-        filter,
-        most,
-        count: 0,
-        sizes: 0,
-        payload: Vec::new(alloc),
-    })
+impl<D: Drop> TableWriter<D> {
+    /// A table without an entry, whose label is the interval above `lo` up to `hi`. At most `most` entries may be put in, and
+    /// that is no more than there are sequence numbers. A caller who takes it from counts that files say judges these before.
+    /// `TableWriter` says what a bound costs that is far above their number.
+    pub fn new<F: Files<Draft = D>>(
+        alloc: Global,
+        port: &mut F,
+        id: FileId,
+        lo: u64,
+        hi: u64,
+        most: u64,
+    ) -> Result<TableWriter<D>, Fault>
+        requires from { lo < 2 ^ 62 }
+        requires to { hi < 2 ^ 62 }
+        requires most { most ≤ 2 ^ 40 }
+        ensures entries { IfOk result (λ writer. HasEntries F.drafted writer []) }
+        ensures span { IfOk result (λ writer. (writer.lo ≡ lo) × (writer.hi ≡ hi) × (writer.id ≡ id)) }
+        ensures most { IfOk result (λ writer. writer.most ≡ most) }
+        ensures empty { IfOk result (λ writer. (writer.block ≡ []) × (writer.count ≡ 0) × (writer.closed.index ≡ [])) }
+        ensures outside { IfErr result (λ fault. IsUnwritten fault) }
+        ensures cause { HasCause Fault.WriteFault (F.faults port.old) (F.faults port.new) result }
+    {
+        let filter = Filter::sized(alloc, most)?;
+        let frames = start_frames(alloc, port)?;
+        let closed = Closed {
+            frames,
+            index: Items::new(alloc),
+            index_len: 0,
+        };
+        Ok(TableWriter {
+            id,
+            lo,
+            hi,
+            closed,
+            block: BlockBuilder::new(alloc),
+            first_key: Vec::new(alloc),
+            filter,
+            most,
+            count: 0,
+            sizes: 0,
+            payload: Vec::new(alloc),
+        })
+    }
+
+    /// Puts an entry behind the others. Its key is above theirs, and fewer entries are in it than may come. Where the entry
+    /// would begin a block for whose handle the index has no room in a frame, the answer is `Worn` with the length of the index,
+    /// and the writer stays as it was: it may be finished.
+    pub fn push<F: Files<Draft = D>>(
+        &mut self,
+        alloc: Global,
+        port: &mut F,
+        entry: &Entry,
+    ) -> Result<(), Fault>
+        requires room { self.old.count < self.old.most }
+        requires entry { IsEntry entry.now }
+        requires rises { Precedes (last_pair self.old.block).key entry.now.key }
+        ensures entries { (entries : List Entry) → HasEntries F.drafted self.old entries →
+            OnOk result (HasEntries F.drafted self.new (entries ++ entry.now ∷ [])) }
+        ensures span { (self.new.lo ≡ self.old.lo) × (self.new.hi ≡ self.old.hi) × (self.new.id ≡ self.old.id) }
+        ensures most { self.new.most ≡ self.old.most }
+        ensures last { OnOk result ((self.new.block ≢ []) × ((last_pair self.new.block).key ≡ entry.now.key)) }
+        ensures count { OnOk result (self.new.count ≡ self.old.count + 1) }
+        ensures refusals { IfErr result (λ fault. IsUnwritten fault
+            ⊎ (IsFull self.old.closed self.old.block self.old.first (pair_of entry.now) fault × (self.new ≡ self.old))) }
+        ensures cause { HasCause Fault.WriteFault (F.faults port.old) (F.faults port.new) result }
+    {
+        let key = entry.key.bytes();
+        self.payload.clear();
+        put_payload(entry, &mut self.payload)?;
+        check_room(
+            &self.closed,
+            &self.block,
+            &self.first_key,
+            key,
+            &self.payload,
+        )?;
+        make_room(
+            alloc,
+            port,
+            &mut self.closed,
+            &mut self.block,
+            &self.first_key,
+            key,
+            &self.payload,
+        )?;
+        keep_first(&self.block, key, &mut self.first_key)?;
+        push_pair(&mut self.block, key, &self.payload)?;
+        self.filter.put(key);
+        self.count += 1;
+        self.sizes += u64::from(entry.size);
+        Ok(())
+    }
+
+    /// The table, sealed. It has at least one entry.
+    pub fn finish<F: Files<Draft = D>>(
+        self,
+        alloc: Global,
+        port: &mut F,
+    ) -> Result<Table<F::Sealed>, Fault>
+        requires some { self.block ≢ [] }
+        ensures table { (entries : List Entry) → HasEntries F.drafted self entries →
+            IfOk result (λ table. Represents F.told table entries) }
+        ensures span { IfOk result (λ table. (table.footer.lo ≡ self.lo) × (table.footer.hi ≡ self.hi)) }
+        ensures id { IfOk result (λ table. table.file.id ≡ self.id) }
+        ensures refusals { IfErr result (λ fault. IsUnwritten fault) }
+        ensures cause { HasCause Fault.WriteFault (F.faults port.old) (F.faults port.new) result }
+    {
+        let TableWriter {
+            id,
+            lo,
+            hi,
+            mut closed,
+            block,
+            first_key,
+            filter,
+            most: _,
+            count,
+            sizes,
+            payload: _,
+        } = self;
+        let filter = folded(alloc, filter, count)?;
+        close_block(alloc, port, &mut closed, block.bytes(), &first_key)?;
+        let Closed {
+            mut frames,
+            index,
+            index_len: _,
+        } = closed;
+        let blocks = frames.count() as u32;
+        let index_bytes = index_body(alloc, index.as_slice())?;
+        let index_at = append_frame(alloc, port, &mut frames, &index_bytes)?.at;
+        let filter_at = append_frame(alloc, port, &mut frames, filter.bytes())?.at;
+        let footer = Footer {
+            entries: count,
+            sizes,
+            lo,
+            hi,
+            index_at,
+            filter_at,
+            blocks,
+        };
+        append_frame(alloc, port, &mut frames, &footer_body(alloc, &footer)?)?;
+        let file = seal_frames(alloc, port, frames, id)?;
+        Ok(Table {
+            file,
+            index,
+            filter,
+            footer,
+        })
+    }
 }
 
-/// Puts the frame of a block behind the others, and its place into the index.
+/// Puts the frame of a block behind the others, and its handle into the index.
 fn close_block<F: Files>(
     alloc: Global,
     port: &mut F,
@@ -150,61 +264,54 @@ fn close_block<F: Files>(
     block: &[u8],
     first: &[u8],
 ) -> Result<(), Fault>
-    requires room { closed.old.frames.count < 2 ^ 23 }
     requires block { length block.now ≤ 4096 }
     requires first { length first.now ≤ 250 }
+    requires room { index_length closed.old + (length first.now + 13) < 2 ^ 32 }
+    ensures index { OnOk result (index_length closed.new ≡ index_length closed.old + (length first.now + 13)) }
     ensures blocks { (blocks : List (List Entry)) (entries : List Entry) → HasBlocks F.drafted closed.old blocks
         → block.now ≡ block_body entries → first.now ≡ first_key entries
         → OnOk result (HasBlocks F.drafted closed.new (blocks ++ entries ∷ [])) }
-    ensures count { OnOk result (closed.new.frames.count ≡ closed.old.frames.count + 1) }
-    ensures at_most { closed.new.frames.count ≤ closed.old.frames.count + 1 }
-    ensures outside { IfErr result (λ fault. IsUnwritten fault) }
+    ensures refusals { IfErr result (λ fault. IsUnwritten fault) }
     ensures cause { HasCause Fault.WriteFault (F.faults port.old) (F.faults port.new) result }
 {
     let key = Items::from_slice(alloc, first)?;
-    let placed = append_frame(alloc, port, &mut closed.frames, block)?;
-    closed.index.push(BlockPlace {
+    closed.index.push(BlockHandle {
         key,
-        at: placed.at,
-        len: placed.len as u32,
+        at: closed.frames.len(),
+        len: block.len() as u32 + FRAME_OVERHEAD as u32,
     })?;
+    closed.index_len += first.len() as u64 + HANDLE_OVERHEAD;
+    append_frame(alloc, port, &mut closed.frames, block)?;
     Ok(())
 }
 
-/// Puts an entry behind the others. Its key is above theirs, and there is room for it.
-pub fn push_entry<F: Files>(
-    alloc: Global,
-    port: &mut F,
-    writer: &mut TableWriter<F::Draft>,
-    entry: &Entry,
+/// Judges that the index has room for the handle of the block that an entry of this key and payload begins, if it begins one.
+/// The handle of the open block is counted as if the index had it.
+fn check_room<D>(
+    closed: &Closed<D>,
+    block: &BlockBuilder,
+    first: &[u8],
+    key: &[u8],
+    payload: &[u8],
 ) -> Result<(), Fault>
-    requires room { HasRoom writer.old }
-    requires entry { IsEntry entry.now }
-    requires rises { Precedes (last_pair writer.old.block).key entry.now.key }
-    ensures entries { (entries : List Entry) → HasEntries F.drafted writer.old entries →
-        OnOk result (HasEntries F.drafted writer.new (entries ++ entry.now ∷ [])) }
-    ensures span { (writer.new.lo ≡ writer.old.lo) × (writer.new.hi ≡ writer.old.hi) × (writer.new.id ≡ writer.old.id) }
-    ensures most { writer.new.most ≡ writer.old.most }
-    ensures outside { IfErr result (λ fault. IsUnwritten fault) }
-    ensures cause { HasCause Fault.WriteFault (F.faults port.old) (F.faults port.new) result }
+    requires first { length first.now ≤ 250 }
+    requires follows { Follows (last_pair block.now).key (record { key = key.now; payload = payload.now }) }
+    requires room { block.now ≢ [] → index_length closed.now + (length first.now + 13) < 2 ^ 32 }
+    ensures { MatchResult result
+        (λ _. HasRoom closed.now block.now first.now (record { key = key.now; payload = payload.now }))
+        (λ fault. IsFull closed.now block.now first.now (record { key = key.now; payload = payload.now }) fault) }
 {
-    let key = entry.key.bytes();
-    writer.payload.clear();
-    put_payload(entry, &mut writer.payload)?;
-    make_room(
-        alloc,
-        port,
-        &mut writer.closed,
-        &mut writer.block,
-        &writer.first_key,
-        key,
-        &writer.payload,
-    )?;
-    keep_first(&writer.block, key, &mut writer.first_key)?;
-    push_pair(&mut writer.block, key, &writer.payload)?;
-    writer.filter.put(key);
-    writer.count += 1;
-    writer.sizes += u64::from(entry.size);
+    let more = key.len() as u64 + HANDLE_OVERHEAD;
+    if block.is_empty() {
+        grown(closed.index_len, more)?;
+        return Ok(());
+    }
+    if block.size_with(key, payload) > BLOCK_LIMIT {
+        grown(
+            closed.index_len + (first.len() as u64 + HANDLE_OVERHEAD),
+            more,
+        )?;
+    }
     Ok(())
 }
 
@@ -215,6 +322,7 @@ fn keep_first(block: &BlockBuilder, key: &[u8], first: &mut Vec<u8>) -> Result<(
     ensures begun { OnOk result (block.now ≡ [] → first.new.items ≡ key.now) }
     ensures kept { OnOk result (block.now ≢ [] → first.new.items ≡ first.old.items) }
     ensures bound { length first.new.items ≤ 250 }
+    ensures err { OnErr result (block.now ≡ []) }
 {
     if !block.is_empty() {
         return Ok(());
@@ -236,7 +344,8 @@ fn push_pair(block: &mut BlockBuilder, key: &[u8], payload: &[u8]) -> Result<(),
     }
 }
 
-/// Closes the open block where an entry of this key and payload would bring it above the limit.
+/// Closes the open block where an entry of this key and payload would bring it above the limit. Where that fails too, no block
+/// is open then.
 fn make_room<F: Files>(
     alloc: Global,
     port: &mut F,
@@ -246,28 +355,29 @@ fn make_room<F: Files>(
     key: &[u8],
     payload: &[u8],
 ) -> Result<(), Fault>
-    requires room { closed.old.frames.count < 2 ^ 23 }
     requires block { length (block_of block.old) ≤ 4096 }
     requires first { length first.now ≤ 250 }
     requires follows { Follows (last_pair block.old).key (record { key = key.now; payload = payload.now }) }
     requires payload { length payload.now ≡ 13 }
+    requires room { HasRoom closed.old block.old first.now (record { key = key.now; payload = payload.now }) }
+    ensures room { OnOk result (block.new ≡ [] → index_length closed.new + (length key.now + 13) < 2 ^ 32) }
+    ensures kept { block.new ≢ [] → (closed.new ≡ closed.old) × (block.new ≡ block.old) }
     ensures ready { (blocks : List (List Entry)) (last : List Entry) (entry : Entry) → HasBlocks F.drafted closed.old blocks
         → block.old ≡ map pair_of last → (last ≢ [] → first.now ≡ first_key last) → Fills blocks last
         → key.now ≡ entry.key → payload.now ≡ payload_of entry
         → OnOk result (IsReady F.drafted closed.new block.new blocks last entry) }
-    ensures fits { OnOk result (length (block_of (block.new ++ record { key = key.now; payload = payload.now } ∷ [])) ≤ 4096) }
-    ensures follows { OnOk result (Follows (last_pair block.new).key (record { key = key.now; payload = payload.now })) }
+    ensures fits { length (block_of (block.new ++ record { key = key.now; payload = payload.now } ∷ [])) ≤ 4096 }
+    ensures follows { Follows (last_pair block.new).key (record { key = key.now; payload = payload.now }) }
     ensures bound { length (block_of block.new) ≤ 4096 }
-    ensures at_most { closed.new.frames.count ≤ closed.old.frames.count + 1 }
-    ensures outside { IfErr result (λ fault. IsUnwritten fault) }
+    ensures refusals { IfErr result (λ fault. IsUnwritten fault) }
     ensures cause { HasCause Fault.WriteFault (F.faults port.old) (F.faults port.new) result }
 {
     if block.is_empty() || block.size_with(key, payload) <= BLOCK_LIMIT {
         return Ok(());
     }
-    close_block(alloc, port, closed, block.bytes(), first)?;
+    let closing = close_block(alloc, port, closed, block.bytes(), first);
     block.clear();
-    Ok(())
+    closing
 }
 
 /// The filter folded to the size for so many keys, in memory of that size.
@@ -282,57 +392,4 @@ fn folded(alloc: Global, mut filter: Filter, keys: u64) -> Result<Filter, AllocE
         return Ok(filter);
     }
     filter.fitted(alloc)
-}
-
-/// The table, sealed. It has at least one entry.
-pub fn finish_table<F: Files>(
-    alloc: Global,
-    port: &mut F,
-    writer: TableWriter<F::Draft>,
-) -> Result<Table<F::Sealed>, Fault>
-    requires some { writer.block ≢ [] }
-    ensures table { (entries : List Entry) → HasEntries F.drafted writer entries →
-        IfOk result (λ table. Stands F.told table entries) }
-    ensures span { IfOk result (λ table. (table.foot.lo ≡ writer.lo) × (table.foot.hi ≡ writer.hi)) }
-    ensures id { IfOk result (λ table. table.file.id ≡ writer.id) }
-    ensures outside { IfErr result (λ fault. IsUnwritten fault) }
-    ensures cause { HasCause Fault.WriteFault (F.faults port.old) (F.faults port.new) result }
-{
-    let TableWriter {
-        id,
-        lo,
-        hi,
-        mut closed,
-        block,
-        first_key,
-        filter,
-        most: _,
-        count,
-        sizes,
-        payload: _,
-    } = writer;
-    let filter = folded(alloc, filter, count)?;
-    close_block(alloc, port, &mut closed, block.bytes(), &first_key)?;
-    let Closed { mut frames, index } = closed;
-    let blocks = frames.count() as u32;
-    let index_bytes = index_body(alloc, index.as_slice())?;
-    let index_at = append_frame(alloc, port, &mut frames, &index_bytes)?.at;
-    let filter_at = append_frame(alloc, port, &mut frames, filter.bytes())?.at;
-    let foot = Foot {
-        entries: count,
-        sizes,
-        lo,
-        hi,
-        index_at,
-        filter_at,
-        blocks,
-    };
-    append_frame(alloc, port, &mut frames, &foot_body(alloc, &foot)?)?;
-    let file = seal_frames(alloc, port, frames, id)?;
-    Ok(Table {
-        file,
-        index,
-        filter,
-        foot,
-    })
 }

@@ -1,6 +1,6 @@
 use Rattle.std.proofs.Common.{◌≡◌, ◌++◌, List, [], length}
 use Rattle.mg_table.specs.Index.{index_bytes, key_after, IsIndexFrom}
-use Rattle.mg_table.specs.declared.index.BlockPlace.{BlockPlace}
+use Rattle.mg_table.specs.declared.index.BlockHandle.{BlockHandle}
 use Rattle.mg_table.proofs.index.read_index_body.Given as goal
 
 -- the items so far are right, and the rest follows them; where the bytes are the body of an index, they are a front of it
@@ -9,8 +9,8 @@ invariant-loop-item l = record {
   right : IsIndexFrom [] 0 l.index l.end;
   begins : l.body ≡ index_bytes l.index ++ l.rest;
   last : l.previous ≡ key_after [] l.index;
-  written : (places : List BlockPlace) → IsIndexFrom [] 0 places l.at → l.body ≡ index_bytes places →
-      (left : List BlockPlace) × (places ≡ l.index ++ left) × (l.rest ≡ index_bytes left) × IsIndexFrom l.previous l.end left l.at;
+  written : (handles : List BlockHandle) → IsIndexFrom [] 0 handles l.at → l.body ≡ index_bytes handles →
+      (left : List BlockHandle) × (handles ≡ l.index ++ left) × (l.rest ≡ index_bytes left) × IsIndexFrom l.previous l.end left l.at;
 }
 
 abbrev pub decreases-loop-item : goal.decreases-loop-item

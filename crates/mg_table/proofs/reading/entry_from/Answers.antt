@@ -2,7 +2,7 @@ use Rattle.std.proofs.Common.{◌≡◌, ◌∙◌, ap, refl, rules, Ok}
 use Rattle.mg_frame.proofs.BigEndianLaws.{AreBytes-from_reads}
 use Rattle.mg_table.specs.Payload.{judged_payload, numbers_of}
 use Rattle.mg_table.specs.declared.entry.Payload.{Payload}
-use Rattle.mg_table.specs.declared.entry.Entry.{Entry}
+use Rattle.mg_types.specs.declared.items.Entry.{Entry}
 use Rattle.mg_table.proofs.PayloadLaws.{payload-back, payload-read}
 use Rattle.mg_table.proofs.reading.entry_from.Goals as goal
 

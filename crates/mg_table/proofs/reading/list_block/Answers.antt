@@ -3,8 +3,8 @@ use Rattle.std.proofs.lemmas.Grind.{common_steps}
 use Rattle.std.specs.Option.{SomeIff}
 use Rattle.mg_block.specs.Cursor.{Advances}
 use Rattle.mg_block.specs.declared.pair.Pair.{Pair}
-use Rattle.mg_model.specs.Bytes.{IsKey}
-use Rattle.mg_model.specs.declared.faults.Fault.TheVariants.{NoMemory}
+use Rattle.mg_types.specs.Bytes.{IsKey}
+use Rattle.mg_types.specs.declared.faults.Fault.TheVariants.{NoMemory}
 use Rattle.mg_sealed.proofs.AnswerLaws.{err_is}
 use Rattle.mg_table.specs.Reading.{IsListUnfit}
 use Rattle.mg_table.proofs.CauseLaws.{at-end, list-read, list-refused}

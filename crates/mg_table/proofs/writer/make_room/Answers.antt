@@ -1,8 +1,10 @@
-use Rattle.std.proofs.Common.{◌≡◌, ◌≢◌, ◌<◌, ◌≤◌, ◌∙◌, List, [], ◌∷◌, ◌++◌, map, sym, ap, subst, length, arith}
+use Rattle.std.proofs.Common.{◌≡◌, ◌≢◌, ◌+◌, ◌<◌, ◌≤◌, ◌∙◌, List, [], ◌∷◌, ◌++◌, map, sym, ap, subst, length, arith}
 use Rattle.mg_block.specs.Block.{block_of, Precedes}
 use Rattle.mg_block.specs.View.{last_pair}
 use Rattle.mg_block.specs.declared.pair.Pair.{Pair}
+use Rattle.std.proofs.lemmas.Result.{on_ok_weaker}
 use Rattle.mg_table.specs.Entries.{pair_of}
+use Rattle.mg_table.specs.Writing.{index_length, HasBlocks}
 use Rattle.mg_table.proofs.EntryLaws.{above-none, none-mapped, one-fits}
 use Rattle.mg_table.proofs.WriterLaws.{ready-closed, ready-stays}
 use Rattle.mg_table.proofs.writer.make_room.Goals.{then-is_empty-via-then-is_empty, then-is_empty-via-else-is_empty+then-size_with-le-BLOCK_LIMIT}
@@ -35,10 +37,12 @@ returns-clause-ready g c = λ blocks last entry has is first fills key payload.
     let same : given ≡ pair_of entry = cc in
     let begun : c.args.block.now ≢ [] = λ none. cc (c.is_empty.ensures.1 none, c.if-is_empty.false) in
     let some : last ≢ [] = λ none. begun (is ∙ ap (map pair_of) none) in
-    let closed = c.in_ok-close_block.ensures.blocks blocks last has (c.bytes.ensures.block ∙ ap block_of is) (first some) in
     let above : 4096 < length (block_of (c.args.block.now ++ given ∷ [])) = grind (arith, c.size_with.ensures) in
-    ready-closed g.F.Files.drafted c.close_block.new.closed c.args.block.now c.clear.new.self blocks last entry closed c.clear.ensures is begun fills
-    (subst (λ (p : Pair). 4096 < length (block_of (c.args.block.now ++ p ∷ []))) same above)
+    on_ok_weaker c.close_block-closing.result
+    (λ (closed : HasBlocks g.F.Files.drafted c.close_block-closing.new.closed (blocks ++ last ∷ [])).
+    ready-closed g.F.Files.drafted c.close_block-closing.new.closed c.args.block.now c.clear.new.self blocks last entry closed c.clear.ensures is begun fills
+    (subst (λ (p : Pair). 4096 < length (block_of (c.args.block.now ++ p ∷ []))) same above))
+    (c.close_block-closing.ensures.blocks blocks last has (c.bytes.ensures.block ∙ ap block_of is) (first some))
 
 pub returns-clause-fits : goal.returns-clause-fits
 returns-clause-fits g c =
@@ -51,3 +55,20 @@ returns-clause-follows g c = record {
   key = c.requires.follows.key;
   payload = c.requires.follows.payload;
 }
+
+pub returns-clause-room : goal.returns-clause-room
+returns-clause-room g c =
+    let given : Pair = record { key = c.args.key.now; payload = c.args.payload.now } in
+    let begun : c.args.block.now ≢ [] = λ none. cc (c.is_empty.ensures.1 none, c.if-is_empty.false) in
+    let above : 4096 < length (block_of (c.args.block.now ++ given ∷ [])) = grind (arith, c.size_with.ensures) in
+    let room = c.requires.room.1 begun above in
+    on_ok_weaker c.close_block-closing.result
+    (λ (long : index_length c.close_block-closing.new.closed ≡ index_length c.args.closed.now + (length c.args.first.now + 13)). λ _. omega (arith, long, room))
+    c.close_block-closing.ensures.index
+
+pub close_block-closing-requires-clause-room : goal.close_block-closing-requires-clause-room
+close_block-closing-requires-clause-room g c =
+    let given : Pair = record { key = c.args.key.now; payload = c.args.payload.now } in
+    let begun : c.args.block.now ≢ [] = λ none. cc (c.is_empty.ensures.1 none, c.if-is_empty.false) in
+    let above : 4096 < length (block_of (c.args.block.now ++ given ∷ [])) = grind (arith, c.size_with.ensures) in
+    omega (arith, c.requires.room.1 begun above)

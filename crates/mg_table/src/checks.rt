@@ -1,0 +1,114 @@
+//! What a scan asks of the entries that it lists.
+
+ghost use Rattle.std.specs.Prelude.{◌≡◌, ◌≤◌, ◌<◌, ◌^◌, length, take, drop, MatchOption, MatchResult};
+ghost use Rattle.mg_table.specs.Entries.{first_key};
+ghost use Rattle.mg_table.specs.Scanning.{item_length, last_key, AreCounted, IsNext};
+ghost use Rattle.mg_table.specs.Table.{sizes_of};
+
+use crate::footer::Footer;
+use crate::index::BlockHandle;
+use mg_block::shared_len;
+use mg_sealed::BLOCK_LIMIT;
+use mg_types::{Entry, Fault, FileId};
+use std::cmp::Ordering;
+
+/// The bytes of an entry's item beside what of its key it spells: the counts of three fields, and the payload.
+const ITEM_OVERHEAD: usize = 16;
+
+/// The key of the first entry, empty where there is none.
+fn first_key(entries: &[Entry]) -> &[u8]
+    ensures key { result.now ≡ first_key entries.now }
+    ensures bound { length result.now ≤ 250 }
+{
+    match entries.first() {
+        Some(entry) => entry.key.bytes(),
+        None => &[],
+    }
+}
+
+/// The key of the last entry, empty where there is none.
+fn last_key(entries: &[Entry]) -> &[u8]
+    ensures { result.now ≡ last_key entries.now }
+{
+    match entries.last() {
+        Some(entry) => entry.key.bytes(),
+        None => &[],
+    }
+}
+
+/// How many bytes the item of an entry of this key has behind the key `previous`.
+fn item_len(previous: &[u8], key: &[u8]) -> usize
+    requires { length key.now ≤ 250 }
+    ensures { result ≡ item_length previous.now key.now }
+{
+    ITEM_OVERHEAD + (key.len() - shared_len(previous, key))
+}
+
+/// Judges the block of `size` bytes whose entries stand behind the first `listed` ones, of which the last ones make a block of `len`
+/// bytes: it begins with the key that the index says, above theirs, is not too large, and could not have begun later.
+pub(crate) fn check_block(
+    id: FileId,
+    handle: &BlockHandle,
+    entries: &[Entry],
+    listed: usize,
+    len: usize,
+    size: usize,
+) -> Result<(), Fault>
+    requires listed { listed ≤ length entries.now }
+    requires len { len < 2 ^ 32 }
+    ensures { MatchResult result
+        (λ _. IsNext handle.now.key (take listed entries.now) len (drop listed entries.now) size)
+        (λ fault. (IsNext handle.now.key (take listed entries.now) len (drop listed entries.now) size → ⊥)
+        × (fault ≡ Fault.Malformed id handle.now.at)) }
+{
+    let malformed = Fault::Malformed {
+        file: id,
+        at: handle.at,
+    };
+    let (before, block) = entries.split_at(listed);
+    let first = first_key(block);
+    if first != handle.key.as_slice() || size > BLOCK_LIMIT {
+        return Err(malformed);
+    }
+    let last = last_key(before);
+    if last.cmp(first) != Ordering::Less || len + item_len(last, first) <= BLOCK_LIMIT {
+        return Err(malformed);
+    }
+    Ok(())
+}
+
+/// The sum of the entries' sizes, or none where it passes 2^64 - 1.
+fn sum_of_sizes(entries: &[Entry]) -> Option<u64>
+    ensures { MatchOption result (2 ^ 64 ≤ sizes_of entries.now) (λ sum. sum ≡ sizes_of entries.now) }
+{
+    let mut sum = 0u64;
+    for entry in entries {
+        sum = sum.checked_add(u64::from(entry.size))?;
+    }
+    Some(sum)
+}
+
+/// Judges all entries of a table, whose footer stands at an offset: how many they are, and the sum of their sizes.
+pub(crate) fn check_counts(
+    id: FileId,
+    at: u64,
+    footer: &Footer,
+    entries: &[Entry],
+) -> Result<(), Fault>
+    ensures { MatchResult result
+        (λ _. AreCounted footer.now entries.now)
+        (λ fault. (AreCounted footer.now entries.now → ⊥) × (fault ≡ Fault.Malformed id at)) }
+{
+    let malformed = Fault::Malformed { file: id, at };
+    if entries.len() as u64 != footer.entries {
+        return Err(malformed);
+    }
+    let sizes = footer.sizes;
+    let Some(sum) = sum_of_sizes(entries) else {
+        return Err(malformed);
+    };
+    if sum != sizes {
+        return Err(malformed);
+    }
+    Ok(())
+}
