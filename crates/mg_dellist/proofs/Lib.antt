@@ -1,3 +1,1 @@
-mod ListingLaws
-mod Measuring
 mod Merges

@@ -3,8 +3,8 @@ use Rattle.std.proofs.Common.{◌≡◌, ℕ, ◌+◌, ◌<◌, List, [], ◌∷
 use Rattle.std.proofs.lemmas.List.{append_assoc}
 use Rattle.std.proofs.lemmas.List.Sorted.{IsPermutation-trans, IsPermutation-append_right, IsPermutation-middle}
 use Rattle.std.specs.List.Sorted.{IsPermutation}
-use Rattle.mg_dellist.specs.declared.dead.Dead.{Dead}
-use Rattle.mg_dellist.specs.Entry.{dead_kind}
+use Rattle.mg_types.specs.declared.items.Dead.{Dead}
+use Rattle.mg_records.specs.DeadRecord.{dead_kind}
 use Rattle.mg_records.specs.File.{RiseAfter, AreRising}
 
 abbrev pub Rises : List Dead → Type 0

@@ -1,7 +1,7 @@
 -- Delete lists in memory.
 use Rattle.std.specs.Prelude.{ℕ, ◌≢◌, ◌||◌, Bool, List, nat_lt}
 use Rattle.std.specs.List.{All}
-use Rattle.mg_dellist.specs.declared.dead.Dead.{Dead}
+use Rattle.mg_types.specs.declared.items.Dead.{Dead}
 
 -- the two lists have no number in common
 abbrev pub AreApart : List Dead → List Dead → Type 0

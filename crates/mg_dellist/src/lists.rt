@@ -3,12 +3,11 @@
 ghost use Rattle.std.specs.Prelude.{◌≡◌, ◌++◌, length, IfOk, IsOkUnless};
 ghost use Rattle.std.specs.List.{filter};
 ghost use Rattle.std.specs.List.Sorted.{IsPermutation};
-ghost use Rattle.mg_dellist.specs.Entry.{dead_kind};
+ghost use Rattle.mg_records.specs.DeadRecord.{dead_kind};
 ghost use Rattle.mg_dellist.specs.Lists.{AreApart, is_outside};
 ghost use Rattle.mg_records.specs.File.{AreRising};
 
-use crate::dead::Dead;
-use mg_model::Fault;
+use mg_types::{Dead, Fault};
 use std::alloc::Global;
 
 /// The entries of two lists that have no number in common, as one list that rises.

@@ -1,8 +1,8 @@
 use super::*;
 use mg_disk::Files;
 use mg_memdisk::{MemDraft, MemFiles, MemSealed};
-use mg_model::{Fault, FileId};
-use mg_records::{Front, Record};
+use mg_records::Record;
+use mg_types::{Fault, FileId, Kind};
 use std::alloc::Global;
 use std::test::Fail;
 
@@ -62,57 +62,17 @@ fn a_number_is_looked_for_in_whole_entries(rt: HostRuntime) {
 }
 
 #[test]
-fn an_entry_is_twelve_bytes_and_is_judged_from_left_to_right(rt: HostRuntime) -> Result<(), Fail> {
-    let alloc = rt.alloc();
-    let mut out = Vec::new(alloc);
-    ONE.put(&mut out)?;
-    assert_eq!(rt;
-        out.as_slice(),
-        [0, 0, 0, 0, 0, 0, 0, 1, 0, 0, 0, 2].as_slice()
-    );
-    assert_eq!(rt; ONE.spelled_len(), 12);
-    let whole = Front::Whole {
-        seq: 1,
-        size: 2,
-        len: 12,
-    };
-    assert_eq!(rt; Dead::measure(&out), whole);
-    assert_eq!(rt; Dead::take(alloc, &out)?, ONE);
-    out.push(7)?;
-    assert_eq!(rt; Dead::measure(&out), whole);
-
-    let great = Front::Great { number: 1 << 62 };
-    let most = 1_048_826u32.to_be_bytes();
-    let above = 1_048_827u32.to_be_bytes();
-    for (number, size, want) in [
-        (1 << 62, [0; 4], great),
-        ((1 << 62) - 1, [0; 4], Front::Outside),
-        (3, above, Front::Outside),
-        (
-            3,
-            most,
-            Front::Whole {
-                seq: 3,
-                size: 1_048_826,
-                len: 12,
-            },
-        ),
-    ] {
-        let mut bytes = Vec::new(alloc);
-        bytes.extend_from_slice(&u64::to_be_bytes(number))?;
-        bytes.extend_from_slice(&size)?;
-        assert_eq!(rt; Dead::measure(&bytes), want);
+fn sizes_are_judged(rt: HostRuntime) {
+    for (size, fits) in [(0, false), (1, true), (1_048_826, true), (1_048_827, false)] {
+        let bytes = u32::to_be_bytes(size);
+        assert_eq!(rt; Dead::measure(&bytes), fits.then_some(4));
     }
-    assert_eq!(rt; Dead::measure(&out[..11]), Front::Outside);
-    assert_eq!(rt; Dead::measure(&out[..7]), Front::Outside);
-    assert_eq!(rt; ONE.seq(), 1);
-    assert_eq!(rt; ONE.size(), 2);
-    Ok(())
+    assert_eq!(rt; Dead::measure(&[0, 0, 1]), None);
 }
 
 const ID: FileId = FileId {
     part: 0,
-    kind: 3,
+    kind: Kind::DelList,
     number: 6,
 };
 
@@ -129,24 +89,17 @@ fn push(
     writer: &mut DelWriter<MemDraft>,
     dead: Dead,
 ) -> Result<(), Fault> {
-    if writer.is_full() || dead.seq >= 1 << 62 || !writer.may_follow(dead.seq) {
+    if !writer.takes(&dead) {
         return Err(Fault::BadWords);
     }
-    if dead.size < 1 || dead.size > 1_048_826 {
-        return Err(Fault::BadWords);
-    }
-    push_dead(alloc, port, writer, dead)
+    writer.push(alloc, port, &dead)
 }
 
 #[test]
 fn a_delete_list_is_the_worked_one(rt: HostRuntime) -> Result<(), Fail> {
     let alloc = rt.alloc();
     let mut port = MemFiles::new(Vec::new(alloc));
-    let mut writer = start_del_list(alloc, &mut port)?;
-    assert!(rt; writer.is_empty());
-    push(alloc, &mut port, &mut writer, ONE)?;
-    assert!(rt; !writer.is_empty());
-    let list = finish_del_list(alloc, &mut port, writer, ID)?;
+    let list = list_of(alloc, &mut port, &[ONE])?;
     assert_eq!(rt; list.count(), 1);
     let file = list.sealed();
     assert_eq!(rt; file.len, 137);
@@ -175,7 +128,7 @@ fn load(
     let Ok(file) = port.seal(alloc, draft) else {
         return Err(Fault::WriteFault);
     };
-    load_del_list(alloc, port, ID, file, len)
+    DelList::load(alloc, port, ID, file, len)
 }
 
 /// Whether it is a refusal that names the file.
@@ -195,7 +148,7 @@ fn load_and_scan(
     len: u64,
 ) -> Result<Vec<Dead>, Fault> {
     let list = load(alloc, port, bytes, len)?;
-    scan_dead(alloc, port, &list)
+    list.scan(alloc, port, 0)
 }
 
 #[test]
@@ -213,14 +166,14 @@ fn list_of(
     port: &mut MemFiles,
     entries: &[Dead],
 ) -> Result<DelList<MemSealed>, Fault> {
-    let mut writer = start_del_list(alloc, port)?;
+    let mut writer = DelWriter::new(alloc, port, ID)?;
     for dead in entries {
         push(alloc, port, &mut writer, *dead)?;
     }
-    if writer.is_empty() {
+    if writer.count() == 0 {
         return Err(Fault::BadWords);
     }
-    finish_del_list(alloc, port, writer, ID)
+    writer.finish(alloc, port)
 }
 
 #[test]
@@ -235,23 +188,10 @@ fn a_list_of_three_blocks_is_scanned_whole(rt: HostRuntime) -> Result<(), Fail> 
     }
     let mut port = MemFiles::new(Vec::new(alloc));
     let list = list_of(alloc, &mut port, &entries)?;
-    // Three blocks of 12,000 bytes in all, their index of 60, and a foot of 45, with 20 bytes around each of the five.
+    // Three blocks of 12,000 bytes in all, their index of 60, and a footer of 45, with 20 bytes around each of the five.
     assert_eq!(rt; list.sealed().len, 12_205);
-    let found = scan_dead(alloc, &mut port, &list)?;
+    let found = list.scan(alloc, &mut port, 0)?;
     assert_eq!(rt; found.as_slice(), entries.as_slice());
-    Ok(())
-}
-
-#[test]
-fn the_entry_of_number_0_is_scanned(rt: HostRuntime) -> Result<(), Fail> {
-    let alloc = rt.alloc();
-    let zero = Dead { seq: 0, size: 5 };
-    for entries in [[zero].as_slice(), [zero, ONE, FOUR].as_slice()] {
-        let mut port = MemFiles::new(Vec::new(alloc));
-        let list = list_of(alloc, &mut port, entries)?;
-        let found = scan_dead(alloc, &mut port, &list)?;
-        assert_eq!(rt; found.as_slice(), entries);
-    }
     Ok(())
 }
 

@@ -4,7 +4,7 @@ use Rattle.std.proofs.lemmas.List.{append_assoc, drop-drop, length-append, lengt
 use Rattle.std.specs.Option.{IfSome}
 use Rattle.mg_frame.specs.BigEndian.{big_endian, front_number, counted, front_list, AreBytes}
 use Rattle.mg_frame.proofs.BigEndianLaws.{front_number_spelled, front_list_spelled, AreBytes-drop}
-use Rattle.mg_model.specs.Bytes.{IsKey, IsDoc}
+use Rattle.mg_types.specs.Bytes.{IsKey, IsDoc}
 use Rattle.mg_records.specs.Contents.{kind_of, doc_part, contents, AreContents}
 use Rattle.mg_records.specs.ContentsLaws.{kind_read, key_read, doc_part_read}
 use Rattle.mg_frame.proofs.SplitLaws.{length-counted}
@@ -13,11 +13,11 @@ use Rattle.mg_frame.proofs.SplitLaws.{length-counted}
 abbrev pub NoContents : List ℕ → Type 0
 NoContents bytes = (key : List ℕ) (doc : Option (List ℕ)) (rest : List ℕ) → AreContents key doc → bytes ≡ contents key doc ++ rest → ⊥
 
--- the place behind a key
+-- the offset behind a key
 behind : (bytes : List ℕ) (n : ℕ) → drop (1 + n) (drop 1 bytes) ≡ drop (2 + n) bytes
 behind bytes n =
-    let place : 1 + (1 + n) ≡ 2 + n = omega arith in
-    drop-drop (1 + n) 1 bytes ∙ ap (λ (k : ℕ). drop k bytes) place
+    let more : 1 + (1 + n) ≡ 2 + n = omega arith in
+    drop-drop (1 + n) 1 bytes ∙ ap (λ (k : ℕ). drop k bytes) more
 
 pub contents_spelled : (bytes key : List ℕ) (doc : Option (List ℕ)) (kind : ℕ) (rest : List ℕ) → AreBytes bytes → Some kind ≡ front_number 1 bytes → Some key ≡ front_list 1 (drop 1 bytes)
     → kind ≡ kind_of doc → drop (2 + length key) bytes ≡ doc_part doc ++ rest → bytes ≡ contents key doc ++ rest

@@ -9,10 +9,10 @@ use Rattle.mg_frame.specs.Frames.{frames, numbered_frames}
 use Rattle.mg_frame.specs.BigEndian.{big_endian}
 use Rattle.mg_frame.proofs.BigEndianLaws.{length-big_endian}
 use Rattle.mg_frame.proofs.FrameLaws.{length-frame}
-use Rattle.mg_records.specs.File.{block_of, first_number, entry_bytes, index_bytes, foot_bytes, frame_length, index_from, end_of}
+use Rattle.mg_records.specs.File.{block_of, first_number, handle_bytes, index_bytes, footer_bytes, frame_length, index_from, end_of}
 use Rattle.mg_records.specs.Record.{Kind}
-use Rattle.mg_records.specs.declared.foot.Foot.{Foot}
-use Rattle.mg_records.specs.declared.index.Entry.{Entry}
+use Rattle.mg_records.specs.declared.footer.Footer.{Footer}
+use Rattle.mg_records.specs.declared.index.BlockHandle.{BlockHandle}
 
 pub length-index_from : {T : Type 0} (kind : Kind T) (at : ℕ) (blocks : List (List T)) → length (index_from kind at blocks) ≡ length blocks
 length-index_from kind at [] = refl
@@ -24,7 +24,7 @@ index_from-push kind at [] xs = ap (λ n. record { first = first_number kind xs;
 index_from-push kind at (b ∷ blocks) xs =
     let later = at + frame_length kind b in
     let there : later + end_of kind blocks ≡ at + end_of kind (b ∷ blocks) = omega (arith, sum_by-cons (frame_length kind) b blocks) in
-    ap (λ entries. record { first = first_number kind b; at = at; len = frame_length kind b } ∷ entries)
+    ap (λ handles. record { first = first_number kind b; at = at; len = frame_length kind b } ∷ handles)
     (index_from-push kind later blocks xs
     ∙ ap (λ n. index_from kind later blocks ++ record { first = first_number kind xs; at = n; len = frame_length kind xs } ∷ []) there)
 
@@ -48,35 +48,35 @@ pub length-blocks : {T : Type 0} (kind : Kind T) (blocks : List (List T)) → le
 unfolding numbered_frames
 length-blocks kind blocks = frames_from-length kind 0 blocks
 
-pub length-entry_bytes : (entry : Entry) → length (entry_bytes entry) ≡ 20
-length-entry_bytes entry =
+pub length-handle_bytes : (handle : BlockHandle) → length (handle_bytes handle) ≡ 20
+length-handle_bytes handle =
     omega (
       arith,
-      length-append (big_endian 8 entry.first ++ big_endian 8 entry.at) (big_endian 4 entry.len),
-      length-append (big_endian 8 entry.first) (big_endian 8 entry.at),
-      length-big_endian 8 entry.first,
-      length-big_endian 8 entry.at,
-      length-big_endian 4 entry.len,
+      length-append (big_endian 8 handle.first ++ big_endian 8 handle.at) (big_endian 4 handle.len),
+      length-append (big_endian 8 handle.first) (big_endian 8 handle.at),
+      length-big_endian 8 handle.first,
+      length-big_endian 8 handle.at,
+      length-big_endian 4 handle.len,
     )
 
-pub length-index_bytes : (entries : List Entry) → length (index_bytes entries) ≡ 20 * length entries
+pub length-index_bytes : (handles : List BlockHandle) → length (index_bytes handles) ≡ 20 * length handles
 length-index_bytes [] = refl
-length-index_bytes (e ∷ entries) = omega (arith, length-append (entry_bytes e) (index_bytes entries), length-entry_bytes e, length-index_bytes entries)
+length-index_bytes (e ∷ handles) = omega (arith, length-append (handle_bytes e) (index_bytes handles), length-handle_bytes e, length-index_bytes handles)
 
-pub index_bytes-push : (entries : List Entry) (e : Entry) → index_bytes (entries ++ e ∷ []) ≡ index_bytes entries ++ entry_bytes e
-index_bytes-push [] e = append-nil (entry_bytes e)
-index_bytes-push (d ∷ entries) e =
-    ap (λ bytes. entry_bytes d ++ bytes) (index_bytes-push entries e) ∙ sym (append_assoc (entry_bytes d) (index_bytes entries) (entry_bytes e))
+pub index_bytes-push : (handles : List BlockHandle) (e : BlockHandle) → index_bytes (handles ++ e ∷ []) ≡ index_bytes handles ++ handle_bytes e
+index_bytes-push [] e = append-nil (handle_bytes e)
+index_bytes-push (d ∷ handles) e =
+    ap (λ bytes. handle_bytes d ++ bytes) (index_bytes-push handles e) ∙ sym (append_assoc (handle_bytes d) (index_bytes handles) (handle_bytes e))
 
-pub length-foot_bytes : (foot : Foot) → length (foot_bytes foot) ≡ 45
-length-foot_bytes foot =
+pub length-footer_bytes : (footer : Footer) → length (footer_bytes footer) ≡ 45
+length-footer_bytes footer =
     let a = big_endian 1 1 in
-    let b = big_endian 8 foot.records in
-    let c = big_endian 8 foot.sum in
-    let d = big_endian 8 foot.first in
-    let e = big_endian 8 foot.last in
-    let f = big_endian 8 foot.index in
-    let h = big_endian 4 foot.blocks in
+    let b = big_endian 8 footer.records in
+    let c = big_endian 8 footer.sum in
+    let d = big_endian 8 footer.first in
+    let e = big_endian 8 footer.last in
+    let f = big_endian 8 footer.index in
+    let h = big_endian 4 footer.blocks in
     omega (
       arith,
       length-append (((((a ++ b) ++ c) ++ d) ++ e) ++ f) h,
@@ -86,10 +86,10 @@ length-foot_bytes foot =
       length-append (a ++ b) c,
       length-append a b,
       length-big_endian 1 1,
-      length-big_endian 8 foot.records,
-      length-big_endian 8 foot.sum,
-      length-big_endian 8 foot.first,
-      length-big_endian 8 foot.last,
-      length-big_endian 8 foot.index,
-      length-big_endian 4 foot.blocks,
+      length-big_endian 8 footer.records,
+      length-big_endian 8 footer.sum,
+      length-big_endian 8 footer.first,
+      length-big_endian 8 footer.last,
+      length-big_endian 8 footer.index,
+      length-big_endian 4 footer.blocks,
     )

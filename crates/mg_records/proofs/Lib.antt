@@ -1,14 +1,18 @@
 pub mod BlockLaws
 mod ContentsReading
-pub mod EntryLaws
+pub mod HandleLaws
 pub mod FieldLaws
 pub mod FileLaws
-pub mod FootCounts
+pub mod FooterCounts
 mod ItemReading
 pub mod ListLaws
 pub mod LoadingLaws
 pub mod LoadingSteps
+pub mod ListingLaws
 pub mod LookupLaws
+pub mod RecordLaws
 pub mod RefusalLaws
 pub mod ScanLaws
+pub mod WholeLaws
+pub mod WithinLaws
 pub mod WriterLaws

@@ -9,17 +9,17 @@ use Rattle.mg_sealed.specs.Filling.{AreFilled, items_of, Grows}
 use Rattle.mg_sealed.specs.Lists.{FitFrames}
 use Rattle.mg_sealed.proofs.FillingLaws.{one_filling}
 use Rattle.mg_sealed.proofs.ListLaws.{one_list_of_frames, same_parts}
-use Rattle.mg_records.specs.File.{block_of, index_from, index_bytes, foot_of, foot_bytes, bodies_of, AreBlocks}
+use Rattle.mg_records.specs.File.{block_of, index_from, index_bytes, footer_of, footer_bytes, bodies_of, AreBlocks}
 use Rattle.mg_records.specs.Lists.{OneList, OneFileOfList}
-use Rattle.mg_records.specs.Record.{Kind, IsLawful}
+use Rattle.mg_records.specs.Record.{Kind, IsLawful, IsRecord}
 use Rattle.mg_records.proofs.BlockLaws.{block_of-append, each-left, each-right}
-use Rattle.mg_records.proofs.FileLaws.{length-index_from, length-index_bytes, length-foot_bytes}
+use Rattle.mg_records.proofs.FileLaws.{length-index_from, length-index_bytes, length-footer_bytes}
 use Rattle.mg_records.proofs.LoadingLaws.{most_bytes}
 use Rattle.mg_records.proofs.ScanLaws.{same_records}
 
 -- ---- one list
 
-same_blocks : {T : Type 0} (kind : Kind T) → IsLawful kind → (blocks others : List (List T)) → AllByRecursion kind.fits (items_of blocks) → AllByRecursion kind.fits (items_of others)
+same_blocks : {T : Type 0} (kind : Kind T) → IsLawful kind → (blocks others : List (List T)) → AllByRecursion (IsRecord kind) (items_of blocks) → AllByRecursion (IsRecord kind) (items_of others)
     → map (block_of kind) blocks ≡ map (block_of kind) others → blocks ≡ others
 same_blocks kind lawful [] [] fit fit' same = refl
 same_blocks kind lawful [] (c ∷ others) fit fit' same = absurd cc
@@ -27,35 +27,35 @@ same_blocks kind lawful (b ∷ blocks) [] fit fit' same = absurd cc
 same_blocks kind lawful (b ∷ blocks) (c ∷ others) fit fit' same =
     let body : block_of kind b ≡ block_of kind c = cc in
     let bodies : map (block_of kind) blocks ≡ map (block_of kind) others = cc in
-    let first = same_records kind lawful c b (each-left kind.fits c (items_of others) fit') (each-left kind.fits b (items_of blocks) fit) (sym body) in
-    let rest = same_blocks kind lawful blocks others (each-right kind.fits b (items_of blocks) fit) (each-right kind.fits c (items_of others) fit') bodies in
+    let first = same_records kind lawful c b (each-left (IsRecord kind) c (items_of others) fit') (each-left (IsRecord kind) b (items_of blocks) fit) (sym body) in
+    let rest = same_blocks kind lawful blocks others (each-right (IsRecord kind) b (items_of blocks) fit) (each-right (IsRecord kind) c (items_of others) fit') bodies in
     cc (first, rest)
 
 -- a body that fits a frame
 Small : List ℕ → Type 0
 Small body = length body < 2 ^ 32
 
-small_blocks : {T : Type 0} (kind : Kind T) → IsLawful kind → (blocks : List (List T)) → AreFilled (block_of kind) blocks → AllByRecursion kind.fits (items_of blocks)
+small_blocks : {T : Type 0} (kind : Kind T) → IsLawful kind → (blocks : List (List T)) → AreFilled (block_of kind) blocks → AllByRecursion (IsRecord kind) (items_of blocks)
     → All Small (map (block_of kind) blocks)
 unfolding Small
 small_blocks kind lawful [] filled fit = All-nil Small
 small_blocks kind lawful (b ∷ blocks) filled fit =
-    let most = most_bytes kind lawful b (each-left kind.fits b (items_of blocks) fit) filled.0 in
-    All-cons Small (block_of kind b) (map (block_of kind) blocks) (omega (arith, most)) (small_blocks kind lawful blocks filled.2 (each-right kind.fits b (items_of blocks) fit))
+    let most = most_bytes kind lawful b (each-left (IsRecord kind) b (items_of blocks) fit) filled.0 in
+    All-cons Small (block_of kind b) (map (block_of kind) blocks) (omega (arith, most)) (small_blocks kind lawful blocks filled.2 (each-right (IsRecord kind) b (items_of blocks) fit))
 
 -- the bodies of a file fit frames
 fit_frames : {T : Type 0} (kind : Kind T) → IsLawful kind → (blocks : List (List T)) → AreBlocks kind blocks → FitFrames (bodies_of kind blocks)
 unfolding Small
 fit_frames kind lawful blocks are =
     let index = index_bytes (index_from kind 0 blocks) in
-    let foot = foot_bytes (foot_of kind blocks) in
+    let footer = footer_bytes (footer_of kind blocks) in
     let before = map (block_of kind) blocks in
     let small : length index < 2 ^ 32 = omega (arith, are.few, length-index_bytes (index_from kind 0 blocks), length-index_from kind 0 blocks) in
-    let small' : length foot < 2 ^ 32 = omega (arith, length-foot_bytes (foot_of kind blocks)) in
+    let small' : length footer < 2 ^ 32 = omega (arith, length-footer_bytes (footer_of kind blocks)) in
     record {
-      few = omega (arith, are.few, length-append before (index ∷ foot ∷ []), length-map blocks (block_of kind));
-      small = All-append Small before (index ∷ foot ∷ []) (small_blocks kind lawful blocks are.filled are.fit)
-          (All-cons Small index (foot ∷ []) small (All-cons Small foot [] small' (All-nil Small)));
+      few = omega (arith, are.few, length-append before (index ∷ footer ∷ []), length-map blocks (block_of kind));
+      small = All-append Small before (index ∷ footer ∷ []) (small_blocks kind lawful blocks are.filled are.fit)
+          (All-cons Small index (footer ∷ []) small (All-cons Small footer [] small' (All-nil Small)));
     }
 
 pub one_list : {T : Type 0} (kind : Kind T) → IsLawful kind → OneList kind

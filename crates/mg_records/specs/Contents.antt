@@ -2,7 +2,7 @@
 use Rattle.std.specs.Prelude.{ℕ, ◌+◌, List, [], ◌++◌, length, Option, None, Some, IfSome}
 use Rattle.std.specs.Option.{option_map_or}
 use Rattle.mg_frame.specs.BigEndian.{big_endian, counted}
-use Rattle.mg_model.specs.Bytes.{IsKey, IsDoc}
+use Rattle.mg_types.specs.Bytes.{IsKey, IsDoc}
 
 -- 1 for a set, and 2 for a delete, which has no document
 abbrev pub kind_of : Option (List ℕ) → ℕ

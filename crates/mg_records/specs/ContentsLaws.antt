@@ -4,7 +4,7 @@ use Rattle.std.proofs.lemmas.List.{append-nil, length-append}
 use Rattle.std.specs.Option.{IfSome}
 use Rattle.mg_frame.specs.BigEndian.{big_endian, front_number, counted, front_list}
 use Rattle.mg_frame.proofs.BigEndianLaws.{length-big_endian}
-use Rattle.mg_model.specs.Bytes.{IsDoc}
+use Rattle.mg_types.specs.Bytes.{IsDoc}
 use Rattle.mg_frame.proofs.SplitLaws.{number_begins, after_number, list_begins, after_list, length-counted}
 use Rattle.mg_records.specs.Contents.{kind_of, doc_part, contents, contents_size, AreContents}
 

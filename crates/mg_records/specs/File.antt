@@ -1,17 +1,17 @@
--- A sealed file of numbered records: the blocks, an index of them, a foot, each in a frame.
-use Rattle.std.specs.Prelude.{◌≡◌, ◌≢◌, ℕ, ◌+◌, ◌<◌, ◌≤◌, ◌^◌, List, [], ◌∷◌, ◌++◌, length, map, sum_by, nat_eq, Option, find}
+-- A sealed file of numbered records: the blocks, an index of them, a footer, each in a frame.
+use Rattle.std.specs.Prelude.{◌≡◌, ◌≢◌, ℕ, ◌+◌, ◌*◌, ◌<◌, ◌^◌, List, [], ◌∷◌, ◌++◌, length, map, sum_by, nat_eq, Option, find}
 use Rattle.std.specs.List.{AllByRecursion}
 use Rattle.mg_frame.specs.BigEndian.{big_endian}
 use Rattle.mg_frame.specs.Frames.{numbered_frames}
 use Rattle.mg_sealed.specs.Filling.{AreFilled, items_of}
-use Rattle.mg_records.specs.Record.{Kind}
-use Rattle.mg_records.specs.declared.foot.Foot.{Foot}
-use Rattle.mg_records.specs.declared.index.Entry.{Entry}
+use Rattle.mg_records.specs.Record.{Kind, IsRecord, record_bytes}
+use Rattle.mg_records.specs.declared.footer.Footer.{Footer}
+use Rattle.mg_records.specs.declared.index.BlockHandle.{BlockHandle}
 
 -- the body of a block of these records: their spellings, one after the other
 abbrev pub block_of : {T : Type 0} → Kind T → List T → List ℕ
 block_of kind [] = []
-block_of kind (it ∷ records) = kind.spelled it ++ block_of kind records
+block_of kind (it ∷ records) = record_bytes kind it ++ block_of kind records
 
 -- the number of the first record, or 0 where there is none
 abbrev pub first_number : {T : Type 0} → Kind T → List T → ℕ
@@ -37,21 +37,21 @@ abbrev pub AreRising : {T : Type 0} → Kind T → List T → Type 0
 AreRising kind [] = Unit {0}
 AreRising kind (it ∷ records) = RiseAfter kind it records
 
--- an index item's fields, as a frame's body has them
-abbrev pub entry_bytes : Entry → List ℕ
-entry_bytes entry = big_endian 8 entry.first ++ big_endian 8 entry.at ++ big_endian 4 entry.len
+-- a block handle's fields, as a frame's body has them
+abbrev pub handle_bytes : BlockHandle → List ℕ
+handle_bytes handle = big_endian 8 handle.first ++ big_endian 8 handle.at ++ big_endian 4 handle.len
 
 -- the body of an index frame
-abbrev pub index_bytes : List Entry → List ℕ
+abbrev pub index_bytes : List BlockHandle → List ℕ
 index_bytes [] = []
-index_bytes (entry ∷ entries) = entry_bytes entry ++ index_bytes entries
+index_bytes (handle ∷ handles) = handle_bytes handle ++ index_bytes handles
 
 -- the whole length of the frame of a block
 abbrev pub frame_length : {T : Type 0} → Kind T → List T → ℕ
 frame_length kind block = length (block_of kind block) + 20
 
--- the index of blocks whose frames stand one after the other from this place on
-abbrev pub index_from : {T : Type 0} → Kind T → ℕ → List (List T) → List Entry
+-- the index of blocks whose frames stand one after the other from this offset on
+abbrev pub index_from : {T : Type 0} → Kind T → ℕ → List (List T) → List BlockHandle
 index_from kind at [] = []
 index_from kind at (block ∷ blocks) =
     record { first = first_number kind block; at = at; len = frame_length kind block } ∷ index_from kind (at + frame_length kind block) blocks
@@ -60,15 +60,15 @@ index_from kind at (block ∷ blocks) =
 abbrev pub end_of : {T : Type 0} → Kind T → List (List T) → ℕ
 end_of kind blocks = sum_by (frame_length kind) blocks
 
--- the fields of a foot, as its frame's body has them: format 1, and then the numbers
-abbrev pub foot_bytes : Foot → List ℕ
-foot_bytes foot =
-    big_endian 1 1 ++ big_endian 8 foot.records ++ big_endian 8 foot.sum ++ big_endian 8 foot.first ++ big_endian 8 foot.last
-    ++ big_endian 8 foot.index ++ big_endian 4 foot.blocks
+-- the fields of a footer, as its frame's body has them: format 1, and then the numbers
+abbrev pub footer_bytes : Footer → List ℕ
+footer_bytes footer =
+    big_endian 1 1 ++ big_endian 8 footer.records ++ big_endian 8 footer.sum ++ big_endian 8 footer.first ++ big_endian 8 footer.last
+    ++ big_endian 8 footer.index ++ big_endian 4 footer.blocks
 
--- the foot of these blocks
-abbrev pub foot_of : {T : Type 0} → Kind T → List (List T) → Foot
-foot_of kind blocks =
+-- the footer of these blocks
+abbrev pub footer_of : {T : Type 0} → Kind T → List (List T) → Footer
+footer_of kind blocks =
     let records = items_of blocks in
     record {
       records = length records;
@@ -81,14 +81,15 @@ foot_of kind blocks =
 
 -- the bodies of the frames of a file of these blocks
 abbrev pub bodies_of : {T : Type 0} → Kind T → List (List T) → List (List ℕ)
-bodies_of kind blocks = map (block_of kind) blocks ++ index_bytes (index_from kind 0 blocks) ∷ foot_bytes (foot_of kind blocks) ∷ []
+bodies_of kind blocks = map (block_of kind) blocks ++ index_bytes (index_from kind 0 blocks) ∷ footer_bytes (footer_of kind blocks) ∷ []
 
 -- These blocks may be those of a file.
 pub record AreBlocks {T : Type 0} (kind : Kind T) (blocks : List (List T)) : Type 0 where
   pub some : blocks ≢ []
-  pub few : length blocks ≤ 2 ^ 23
+  -- the body of the index fits a frame
+  pub few : 20 * length blocks < 2 ^ 32
   pub filled : AreFilled (block_of kind) blocks
-  pub fit : AllByRecursion kind.fits (items_of blocks)
+  pub fit : AllByRecursion (IsRecord kind) (items_of blocks)
   pub rise : AreRising kind (items_of blocks)
 
 -- The bytes are the file of these records.

@@ -1,6 +1,10 @@
+pub mod BlockFor
 pub mod Contents
 pub mod ContentsLaws
+pub mod DeadLaws
+pub mod DeadRecord
 pub mod File
+pub mod Indexes
 pub mod ItemLaws
 pub mod ItemRecord
 pub mod Lists

@@ -1,110 +1,110 @@
--- What is read of the foot and the index of a file of records.
+-- What is read of the footer and the index of a file of records.
 use Rattle.std.specs.Prelude.{◌≡◌, ◌≢◌, ℕ, ◌+◌, ◌-◌, ◌<◌, ◌≤◌, ◌^◌, ◌⊎◌, List, [], ◌∷◌, ◌++◌, length, Ok}
-use Rattle.mg_model.specs.declared.faults.Fault.{Fault}
-use Rattle.mg_model.specs.declared.faults.Fault.TheVariants.{Malformed}
-use Rattle.mg_model.specs.declared.faults.FileId.{FileId}
-use Rattle.mg_sealed.specs.Foot.{foot_body}
-use Rattle.mg_sealed.specs.Numbers.{AreKept, IsTooGreat}
+use Rattle.mg_frame.specs.Frame.{StandsAt}
+use Rattle.mg_types.specs.declared.faults.Fault.{Fault}
+use Rattle.mg_types.specs.declared.faults.Fault.TheVariants.{Malformed}
+use Rattle.mg_types.specs.declared.names.FileId.{FileId}
+use Rattle.mg_sealed.specs.Footer.{footer_body}
+use Rattle.mg_sealed.specs.Numbers.{AreKept, IsOffsetUnfit, IsTooGreat}
 use Rattle.mg_sealed.specs.Reading.{frame_body}
-use Rattle.mg_records.specs.File.{entry_bytes, foot_bytes, index_bytes}
+use Rattle.mg_records.specs.Indexes.{IsIndexFrom, first_of, least_after}
+use Rattle.mg_records.specs.File.{handle_bytes, footer_bytes, index_bytes}
 use Rattle.mg_records.specs.Writing.{Filed}
-use Rattle.mg_records.specs.declared.foot.Foot.{Foot}
-use Rattle.mg_records.specs.declared.index.Entry.{Entry}
+use Rattle.mg_records.specs.declared.footer.Footer.{Footer}
+use Rattle.mg_records.specs.declared.index.BlockHandle.{BlockHandle}
 
 -- the numbers fit their fields
-pub record IsInFields (foot : Foot) : Type 0 where
-  pub records : foot.records < 2 ^ 64
-  pub sum : foot.sum < 2 ^ 64
-  pub first : foot.first < 2 ^ 64
-  pub last : foot.last < 2 ^ 64
-  pub index : foot.index < 2 ^ 64
-  pub blocks : foot.blocks < 2 ^ 32
+pub record IsInFields (footer : Footer) : Type 0 where
+  pub records : footer.records < 2 ^ 64
+  pub sum : footer.sum < 2 ^ 64
+  pub first : footer.first < 2 ^ 64
+  pub last : footer.last < 2 ^ 64
+  pub index : footer.index < 2 ^ 64
+  pub blocks : footer.blocks < 2 ^ 32
 
--- the foot of a file
-pub record IsFoot (foot : Foot) : Type 0 where
-  pub records : foot.records < 2 ^ 62
-  pub sum : foot.sum < 2 ^ 62
-  pub first : foot.first < 2 ^ 62
-  pub last : foot.last < 2 ^ 62
-  pub index : foot.index < 2 ^ 62
-  pub blocks : foot.blocks < 2 ^ 32
-  pub some_records : 1 ≤ foot.records
-  pub some_blocks : 1 ≤ foot.blocks
+-- the footer of a file
+pub record IsFooter (footer : Footer) : Type 0 where
+  pub records : footer.records < 2 ^ 62
+  pub sum : footer.sum < 2 ^ 62
+  pub first : footer.first < 2 ^ 62
+  pub last : footer.last < 2 ^ 62
+  pub index : footer.index < 2 ^ 62
+  pub blocks : footer.blocks < 2 ^ 32
+  pub some_records : 1 ≤ footer.records
+  pub some_blocks : 1 ≤ footer.blocks
 
 -- the numbers fit their fields
-pub record IsEntry (entry : Entry) : Type 0 where
-  pub first : entry.first < 2 ^ 64
-  pub at : entry.at < 2 ^ 64
-  pub len : entry.len < 2 ^ 32
+pub record IsHandle (handle : BlockHandle) : Type 0 where
+  pub first : handle.first < 2 ^ 64
+  pub at : handle.at < 2 ^ 64
+  pub len : handle.len < 2 ^ 32
 
--- The first numbers are at least `least` and strictly rise, and the frames stand one after the other, from the place `at` to the
--- place `end`.
-abbrev pub IsIndexFrom : ℕ → ℕ → List Entry → ℕ → Type 0
-IsIndexFrom least at [] end = at ≡ end
-IsIndexFrom least at (entry ∷ entries) end =
-    (least ≤ entry.first) × (entry.first < 2 ^ 62) × (entry.at ≡ at) × (at < 2 ^ 62) × (entry.len < 2 ^ 32)
-    × IsIndexFrom (entry.first + 1) (at + entry.len) entries end
+-- the numbers of a footer before its number of blocks
+abbrev pub footer_numbers : Footer → List ℕ
+footer_numbers footer = footer.records ∷ footer.sum ∷ footer.first ∷ footer.last ∷ footer.index ∷ []
 
--- the numbers of a foot before its number of blocks
-abbrev pub foot_numbers : Foot → List ℕ
-foot_numbers foot = foot.records ∷ foot.sum ∷ foot.first ∷ foot.last ∷ foot.index ∷ []
+-- what is wrong with a footer at this offset, from left to right: it has no record, a number is too great, or it has no block
+abbrev pub IsFooterFault : FileId → ℕ → Footer → Fault → Type 0
+IsFooterFault id at footer fault =
+    ((footer.records ≡ 0) × (fault ≡ Malformed id at))
+    ⊎ ((1 ≤ footer.records) × IsTooGreat id at (footer_numbers footer) fault)
+    ⊎ ((1 ≤ footer.records) × AreKept (footer_numbers footer) × (footer.blocks ≡ 0) × (fault ≡ Malformed id at))
 
--- what is wrong with a foot at this place, from left to right: it has no record, a number is too great, or it has no block
-abbrev pub IsFootFault : FileId → ℕ → Foot → Fault → Type 0
-IsFootFault id at foot fault =
-    ((foot.records ≡ 0) × (fault ≡ Malformed id at))
-    ⊎ ((1 ≤ foot.records) × IsTooGreat id at (foot_numbers foot) fault)
-    ⊎ ((1 ≤ foot.records) × AreKept (foot_numbers foot) × (foot.blocks ≡ 0) × (fault ≡ Malformed id at))
+-- what is wrong with a body at this offset that is not that of a footer of a file: its form, or what it says
+abbrev pub IsFooterUnfit : FileId → ℕ → List ℕ → Fault → Type 0
+IsFooterUnfit id at body fault =
+    (((footer : Footer) → IsInFields footer → body ≢ footer_bytes footer) × (fault ≡ Malformed id at))
+    ⊎ ((footer : Footer) × IsInFields footer × (body ≡ footer_bytes footer) × IsFooterFault id at footer fault)
 
--- what is wrong with a body at this place that is not that of a foot of a file: its form, or what it says
-abbrev pub IsFootUnfit : FileId → ℕ → List ℕ → Fault → Type 0
-IsFootUnfit id at body fault =
-    (((foot : Foot) → IsInFields foot → body ≢ foot_bytes foot) × (fault ≡ Malformed id at))
-    ⊎ ((foot : Foot) × IsInFields foot × (body ≡ foot_bytes foot) × IsFootFault id at foot fault)
+-- What is wrong with a handle of an index at this offset that should have a first number of at least `least` and the offset `offset`,
+-- from left to right: its first number is too great or does not rise, or its offset is too great or another one.
+abbrev pub IsHandleUnfit : FileId → ℕ → ℕ → ℕ → BlockHandle → Fault → Type 0
+IsHandleUnfit id at least offset handle fault =
+    IsTooGreat id at (handle.first ∷ []) fault
+    ⊎ ((handle.first < 2 ^ 62) × (handle.first < least) × (fault ≡ Malformed id at))
+    ⊎ ((handle.first < 2 ^ 62) × (least ≤ handle.first) × IsOffsetUnfit id at offset handle.at fault)
 
--- the least first number that may follow these items, where `least` is that of the first one
-abbrev pub least_after : ℕ → List Entry → ℕ
-least_after least [] = least
-least_after least (entry ∷ entries) = least_after (entry.first + 1) entries
-
--- What is wrong with an item of an index at this place that should have a first number of at least `least` and the place `place`,
--- from left to right: its first number is too great or does not rise, or its place is too great or another one.
-abbrev pub IsEntryUnfit : FileId → ℕ → ℕ → ℕ → Entry → Fault → Type 0
-IsEntryUnfit id at least place entry fault =
-    IsTooGreat id at (entry.first ∷ []) fault
-    ⊎ ((entry.first < 2 ^ 62) × (entry.first < least) × (fault ≡ Malformed id at))
-    ⊎ ((entry.first < 2 ^ 62) × (least ≤ entry.first) × IsTooGreat id at (entry.at ∷ []) fault)
-    ⊎ ((entry.first < 2 ^ 62) × (least ≤ entry.first) × (entry.at < 2 ^ 62) × (entry.at ≢ place) × (fault ≡ Malformed id at))
-
--- Where an index at this place stops: its next item is wrong, or there is no further item, and bytes are left, or the frames of the
--- blocks do not end at this place.
+-- Where an index at this offset stops: its next handle is wrong, or there is no further one, and bytes are left, or the frames of the
+-- blocks do not end at this offset.
 abbrev pub IsStop : FileId → ℕ → ℕ → ℕ → List ℕ → Fault → Type 0
-IsStop id at least place rest fault =
-    ((entry : Entry) × (behind : List ℕ) × IsEntry entry × (rest ≡ entry_bytes entry ++ behind) × IsEntryUnfit id at least place entry fault)
-    ⊎ (((entry : Entry) (behind : List ℕ) → IsEntry entry → rest ≢ entry_bytes entry ++ behind) × ((rest ≢ []) ⊎ (place ≢ at)) × (fault ≡ Malformed id at))
+IsStop id at least offset rest fault =
+    ((handle : BlockHandle) × (behind : List ℕ) × IsHandle handle × (rest ≡ handle_bytes handle ++ behind) × IsHandleUnfit id at least offset handle fault)
+    ⊎ (((handle : BlockHandle) (behind : List ℕ) → IsHandle handle → rest ≢ handle_bytes handle ++ behind) × ((rest ≢ []) ⊎ (offset ≢ at)) × (fault ≡ Malformed id at))
 
--- The body begins with items that are right, and stops behind them.
+-- The body begins with handles that are right, and stops behind them.
 pub record IsIndexUnfit (id : FileId) (at : ℕ) (body : List ℕ) (fault : Fault) : Type 0 where
-  pub front : List Entry
-  pub place : ℕ
-  pub right : IsIndexFrom 0 0 front place
+  pub front : List BlockHandle
+  pub offset : ℕ
+  pub right : IsIndexFrom 1 0 front offset
   pub rest : List ℕ
   pub body_is : body ≡ index_bytes front ++ rest
-  pub stops : IsStop id at (least_after 0 front) place rest fault
+  pub stops : IsStop id at (least_after 1 front) offset rest fault
 
--- the foot that ends the bytes
-pub record EndsIn (id : FileId) (bytes : List ℕ) (foot : Foot) : Type 0 where
-  pub is_foot : IsFoot foot
-  pub whole : foot_body id bytes 65 1 ≡ Ok (foot_bytes foot)
+-- A footer and an index that may be kept of a file: as many blocks, the same first number, and no block that begins behind the last one. First numbers
+-- begin at 1 and rise, and the frames of the blocks stand one after the other, up to the index.
+pub record IsKept (footer : Footer) (index : List BlockHandle) : Type 0 where
+  pub is_footer : IsFooter footer
+  pub right : IsIndexFrom 1 0 index footer.index
+  pub count : length index ≡ footer.blocks
+  pub first : first_of index ≡ footer.first
+  pub last : least_after 1 index ≤ footer.last + 1
 
--- the index that stands where this foot says, of as many blocks, and which the frame of the foot follows
-pub record IsIndexOf (id : FileId) (bytes : List ℕ) (foot : Foot) (index : List Entry) : Type 0 where
-  pub right : IsIndexFrom 0 0 index foot.index
-  pub whole : frame_body id bytes foot.index foot.blocks ≡ Ok (index_bytes index)
-  pub count : length index ≡ foot.blocks
-  pub follows : foot.index + length (index_bytes index) + 20 ≡ length bytes - 65
+-- the footer that ends the bytes
+pub record EndsIn (id : FileId) (bytes : List ℕ) (footer : Footer) : Type 0 where
+  pub is_footer : IsFooter footer
+  pub whole : footer_body id bytes 65 1 ≡ Ok (footer_bytes footer)
+  pub stands : StandsAt bytes (length bytes - 65) (footer.blocks + 1, footer_bytes footer)
 
--- The foot and the index that are kept of a file are those of its bytes.
-pub record IsRead {S : Type 0} (id : FileId) (bytes : List ℕ) (filed : Filed S) : Type 0 where
-  pub foot : EndsIn id bytes filed.foot
-  pub index : IsIndexOf id bytes filed.foot filed.index
+-- the index that stands where this footer says, and which the frame of the footer follows
+pub record IsIndexOf (id : FileId) (bytes : List ℕ) (footer : Footer) (index : List BlockHandle) : Type 0 where
+  pub kept : IsKept footer index
+  pub whole : frame_body id bytes footer.index footer.blocks ≡ Ok (index_bytes index)
+  pub stands : StandsAt bytes footer.index (footer.blocks, index_bytes index)
+  pub follows : footer.index + length (index_bytes index) + 20 ≡ length bytes - 65
+
+-- The footer and the index that are kept of a file are those of these bytes, as is its length.
+pub record IsRead {S : Type 0} (bytes : List ℕ) (filed : Filed S) : Type 0 where
+  pub len : filed.file.len ≡ length bytes
+  pub least : 65 ≤ length bytes
+  pub footer : EndsIn filed.file.id bytes filed.footer
+  pub index : IsIndexOf filed.file.id bytes filed.footer filed.index

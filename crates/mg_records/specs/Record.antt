@@ -1,46 +1,45 @@
 -- A kind of numbered record, and what its records look like in a block.
-use Rattle.std.specs.Prelude.{◌≡◌, ℕ, ◌<◌, ◌≤◌, ◌^◌, List, ◌++◌, length, Some}
-use Rattle.mg_frame.specs.BigEndian.{front_number}
-use Rattle.mg_records.specs.declared.record.Front.{Front}
-use Rattle.mg_records.specs.declared.record.Front.TheVariants.{Whole, Great, Outside}
+use Rattle.std.specs.Prelude.{◌≡◌, ℕ, ◌-◌, ◌<◌, ◌≤◌, ◌^◌, List, ◌++◌, length, Option, Some, None}
+use Rattle.mg_frame.specs.BigEndian.{big_endian}
 
 -- what is said of the records of a kind
 pub record Kind (T : Type 0) : Type 1 where
   pub seq : T → ℕ
   pub size : T → ℕ
-  -- its bytes in a block
-  pub spelled : T → List ℕ
-  -- it may stand in a file
+  -- the bytes that follow its number in a block
+  pub contents : T → List ℕ
+  -- its contents may stand in a file
   pub fits : T → Type 0
 
--- What each kind keeps: numbers and sizes are in range, a spelling has at least one byte and fewer than 2 ^ 21, and it ends by
--- itself, so that a list of records has one spelling.
+-- What each kind keeps: sizes and lengths are in range, contents go with each number, and they end by themselves, so that a list of
+-- records has one spelling.
 pub record IsLawful {T : Type 0} (kind : Kind T) : Type 0 where
-  pub number : (it : T) → kind.fits it → kind.seq it < 2 ^ 62
   pub some_size : (it : T) → kind.fits it → 1 ≤ kind.size it
   pub most_size : (it : T) → kind.fits it → kind.size it ≤ 1048826
-  pub some_bytes : (it : T) → kind.fits it → 1 ≤ length (kind.spelled it)
-  pub most_bytes : (it : T) → kind.fits it → length (kind.spelled it) < 2 ^ 21
-  pub one_spelling : (it other : T) (rest rest' : List ℕ) → kind.fits it → kind.fits other
-      → kind.spelled it ++ rest ≡ kind.spelled other ++ rest' → (it ≡ other) × (rest ≡ rest')
+  pub most_bytes : (it : T) → kind.fits it → length (kind.contents it) ≤ 2 ^ 21 - 9
+  pub numbered : (it : T) (number : ℕ) → kind.fits it → (other : T) × (kind.seq other ≡ number) × kind.fits other × (kind.contents other ≡ kind.contents it)
+  pub one_spelling : (it other : T) (rest rest' : List ℕ) → kind.fits it → kind.fits other → kind.seq it ≡ kind.seq other
+      → kind.contents it ++ rest ≡ kind.contents other ++ rest' → (it ≡ other) × (rest ≡ rest')
 
--- the bytes are those of a record that may stand in a file
-abbrev pub IsSpelling : {T : Type 0} → Kind T → List ℕ → Type 0
-IsSpelling {T} kind bytes = (it : T) × kind.fits it × (bytes ≡ kind.spelled it)
+-- a record's bytes in a block: its number in 8 bytes, and then its contents
+abbrev pub record_bytes : {T : Type 0} → Kind T → T → List ℕ
+record_bytes kind it = big_endian 8 (kind.seq it) ++ kind.contents it
 
--- the bytes begin with this record, which may stand in a file
-pub record BeginsWith {T : Type 0} (kind : Kind T) (bytes : List ℕ) (it : T) : Type 0 where
+-- A record may stand in a file: numbers begin at 1 and are below 2 ^ 62.
+pub record IsRecord {T : Type 0} (kind : Kind T) (it : T) : Type 0 where
+  pub some : 1 ≤ kind.seq it
+  pub small : kind.seq it < 2 ^ 62
   pub fits : kind.fits it
-  pub rest : List ℕ
-  pub spelling : bytes ≡ kind.spelled it ++ rest
 
--- the bytes begin with no record that may stand in a file
-abbrev pub BeginsWithNone : {T : Type 0} → Kind T → List ℕ → Type 0
-BeginsWithNone {T} kind bytes = (it : T) → BeginsWith kind bytes it → ⊥
+-- the bytes are the contents of a record
+abbrev pub IsContents : {T : Type 0} → Kind T → List ℕ → Type 0
+IsContents {T} kind bytes = (it : T) × kind.fits it × (bytes ≡ kind.contents it)
 
--- What each answer says of the bytes. A record begins with its number in 8 bytes, which is judged first.
-abbrev pub Measures : {T : Type 0} → Kind T → List ℕ → Front → Type 0
-Measures {T} kind bytes (Whole seq size len) =
-    (it : T) × BeginsWith kind bytes it × (seq ≡ kind.seq it) × (size ≡ kind.size it) × (len ≡ length (kind.spelled it))
-Measures kind bytes (Great number) = BeginsWithNone kind bytes × (front_number 8 bytes ≡ Some number) × (2 ^ 62 ≤ number)
-Measures kind bytes Outside = BeginsWithNone kind bytes × ((number : ℕ) → front_number 8 bytes ≡ Some number → number < 2 ^ 62)
+-- the bytes begin with contents of this length, or with none
+abbrev pub Measures : {T : Type 0} → Kind T → List ℕ → Option ℕ → Type 0
+Measures {T} kind bytes (Some len) = (it : T) × (rest : List ℕ) × kind.fits it × (bytes ≡ kind.contents it ++ rest) × (len ≡ length (kind.contents it))
+Measures {T} kind bytes None = (it : T) (rest : List ℕ) → kind.fits it → bytes ≡ kind.contents it ++ rest → ⊥
+
+-- the record of this number and these contents
+abbrev pub IsTaken : {T : Type 0} → Kind T → ℕ → List ℕ → T → Type 0
+IsTaken kind number bytes it = (kind.seq it ≡ number) × kind.fits it × (bytes ≡ kind.contents it)

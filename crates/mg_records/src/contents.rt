@@ -1,12 +1,12 @@
 //! What stands behind the number of a record.
 
-ghost use Rattle.std.specs.Prelude.{◌≡◌, ◌++◌, ◌≤◌, ℕ, List, length, drop, Option, IfOk, IfSome, IfNone, OnOk};
+ghost use Rattle.std.specs.Prelude.{◌≡◌, ◌++◌, ◌≤◌, ℕ, List, length, take, drop, Option, IfOk, IfSome, IfNone, OnOk};
 ghost use Rattle.std.specs.Option.{option_copied};
-ghost use Rattle.mg_model.specs.Bytes.{IsDoc, IsKey};
+ghost use Rattle.mg_types.specs.Bytes.{IsDoc, IsKey};
 ghost use Rattle.mg_records.specs.Contents.{AreContents, contents, contents_size, doc_part, kind_of};
 
 use mg_frame::{get_long, get_short, get_u8, put_long, put_short, put_u8};
-use mg_model::{Doc, Item, Key};
+use mg_types::{Doc, Item, Key};
 use std::alloc::{AllocError, Global};
 
 /// The byte of a set, and that of a delete.
@@ -60,7 +60,8 @@ impl<'a> Contents<'a> {
     /// Appends it. After an error a front of it may stand there.
     pub fn put(&self, out: &mut Vec<u8>) -> Result<(), AllocError>
         requires { AreContents self.now.key.now (option_copied self.now.doc) }
-        ensures { OnOk result (out.new.items ≡ out.old.items ++ contents self.now.key.now (option_copied self.now.doc)) }
+        ensures put { OnOk result (out.new.items ≡ out.old.items ++ contents self.now.key.now (option_copied self.now.doc)) }
+        ensures front { take (length out.old.items) out.new.items ≡ out.old.items }
     {
         match self.doc {
             Some(doc) => {
@@ -116,7 +117,7 @@ fn doc_part_len(doc: Option<&[u8]>) -> usize
     }
 }
 
-/// The document of a record of this kind, which begins at a place; None for a delete. It is not copied.
+/// The document of a record of this kind, which begins at an offset; None for a delete. It is not copied.
 fn read_doc(kind: u8, bytes: &[u8], at: usize) -> Option<Option<&[u8]>>
     requires { at ≤ length bytes.now }
     ensures form { IfSome result (λ doc. IfSome (option_copied doc) (λ d. IsDoc d)) }

@@ -1,10 +1,11 @@
-//! Sealed files of numbered records: blocks of records in rising order of their numbers, an index of the blocks, a foot.
+//! Sealed files of numbered records: blocks of records in rising order of their numbers, an index of the blocks, a footer.
 #![tactic(auto)]
 
 mod block;
 mod contents;
+mod dead;
 mod file;
-mod foot;
+mod footer;
 mod index;
 mod item;
 pub mod laws;
@@ -14,13 +15,10 @@ mod record;
 mod writer;
 
 pub use file::RecordFile;
-pub use foot::Foot;
-pub use index::Entry;
-pub use item::parts_fit;
-pub use lookup::{get_record, scan_records};
-pub use reading::load_records;
-pub use record::{Front, Record};
-pub use writer::{RecordWriter, finish_records, push_record, start_records};
+pub use footer::Footer;
+pub use index::BlockHandle;
+pub use record::Record;
+pub use writer::RecordWriter;
 
 #[cfg(test)]
 mod tests;

@@ -1,113 +1,193 @@
 //! Records of a file are found by their numbers.
 
-ghost use Rattle.std.specs.Prelude.{◌≡◌, ◌<◌, ◌≤◌, ◌⊎◌, List, [], length, slice_index_or, filter, nat_lt, IfErr, IfOk, IfSome, IsOkAnd, IsSome, MatchResult, Ok, None};
-ghost use Rattle.std.specs.List.Sorted.{IsNonDecreasingBy, IsPartitionPoint};
+ghost use Rattle.std.specs.Prelude.{◌≡◌, ◌+◌, ◌-◌, ◌<◌, ◌≤◌, ◌≢◌, ◌⊎◌, List, [], length, sum_by, min, ◌^◌, filter, nat_lt, IfErr, IfOk, IfSome, IsOkAnd, IsSome, MatchResult, Ok, None};
 ghost use Rattle.mg_faults.specs.Causes.{HasCause};
-ghost use Rattle.mg_records.specs.File.{record_of};
-ghost use Rattle.mg_records.specs.Lookup.{IsBlock, IsBlockFault, IsGot, IsListed, IsScanRefused, IsSoughtRefused};
+ghost use Rattle.mg_frame.specs.Frame.{StandsAt};
+ghost use Rattle.mg_records.specs.BlockFor.{IsBlockFor};
+ghost use Rattle.mg_records.specs.File.{IsFile, record_of};
+ghost use Rattle.mg_records.specs.Lookup.{IsBlock, IsBlockFault, IsGot, IsListed, IsScanRefused, IsSoughtRefused, IsSpan, HasTotals};
 ghost use Rattle.mg_records.specs.Reading.{IsRead};
-ghost use Rattle.mg_records.specs.Writing.{Holds};
-ghost use Rattle.mg_records.specs.declared.index.Entry.{Entry};
+ghost use Rattle.mg_records.specs.Writing.{Represents};
+ghost use Rattle.mg_records.specs.declared.block.Span.{Span};
 ghost use Rattle.mg_sealed.specs.Answers.{Answers, IsOutside};
 ghost use Rattle.mg_sealed.specs.Blocks.{block_body};
 
-use crate::block::{find_in_block, scan_block};
+use crate::block::{Span, find_in_block, scan_block};
 use crate::file::RecordFile;
-use crate::index::Entry;
+use crate::reading::FOOTER_LEN;
 use crate::record::Record;
-use mg_disk::Files;
-use mg_model::Fault;
-use mg_sealed::{Frame, read_block};
+use mg_sealed::{BLOCK_LIMIT, Block, Blocks, malformed};
+use mg_types::Fault;
 use std::alloc::Global;
+use std::mem;
 
-/// The record of this number. Reads no block where the number is not from the first to the last one of the file, and else at
-/// most one; takes memory for that block's frame and for the record.
-pub fn get_record<F: Files, R: Record>(
-    alloc: Global,
-    port: &mut F,
-    file: &RecordFile<F::Sealed>,
-    number: u64,
-) -> Result<Option<R>, Fault>
-    ensures found { IsSome (F.told file.now.file.file) → (records : List R) → Holds R.kind F.told file.now records →
-        MatchResult result (λ found. found ≡ record_of R.kind number records) (λ fault. IsOutside fault) }
-    ensures unread { (number < file.now.foot.first) ⊎ (file.now.foot.last < number) → (port.new ≡ port.old) × (result ≡ Ok None) }
-    ensures read { file.now.foot.first ≤ number → number ≤ file.now.foot.last →
-        IfOk result (λ found. IfSome (F.told file.now.file.file) (λ bytes. IsRead file.now.file.id bytes file.now →
-        file.now.file.len ≡ length bytes → IsGot R.kind file.now.file.id bytes file.now.index number found)) }
-    ensures causes { IfErr result (λ fault. IfSome (F.told file.now.file.file) (λ bytes. file.now.file.len ≡ length bytes →
-        IsOutside fault ⊎ IsSoughtRefused R.kind file.now.file.id bytes file.now number fault)) }
-    ensures refusals { IfErr result (λ fault. IsOutside fault ⊎ IsBlockFault file.now.file.id file.now.index fault) }
-    ensures cause { HasCause Fault.ReadFault (F.faults port.old) (F.faults port.new) result }
-{
-    if number < file.first() || number > file.last() {
-        return Ok(None);
+impl<S: Drop, R: Record> RecordFile<S, R> {
+    /// The record of this number. Reads no block where the number is not from the first to the last one of the file, and else one;
+    /// takes memory for that block's frame and for the record. Of that block it judges the records up to the one that it finds.
+    pub fn get<F: Blocks<Sealed = S>>(
+        &self,
+        alloc: Global,
+        port: &mut F,
+        number: u64,
+    ) -> Result<Option<R>, Fault>
+        ensures found { IsSome (F.Files.told self.now.file.file) → (records : List R) → Represents R.kind F.Files.told self.now records →
+            MatchResult result (λ found. found ≡ record_of R.kind number records) (λ fault. IsOutside fault) }
+        ensures unread { (number < self.now.footer.first) ⊎ (self.now.footer.last < number) → (port.new ≡ port.old) × (result ≡ Ok None) }
+        ensures read { self.now.footer.first ≤ number → number ≤ self.now.footer.last →
+            IfOk result (λ found. IfSome (F.Files.told self.now.file.file) (λ bytes. self.now.file.len ≡ length bytes → IsGot R.kind bytes self.now number found)) }
+        ensures causes { IfErr result (λ fault. IfSome (F.Files.told self.now.file.file) (λ bytes. self.now.file.len ≡ length bytes →
+            IsOutside fault ⊎ IsSoughtRefused R.kind bytes self.now number fault)) }
+        ensures refusals { IfErr result (λ fault. IsOutside fault ⊎ IsBlockFault self.now.file.id self.now.index fault) }
+        ensures cause { HasCause Fault.ReadFault (F.Files.faults port.old) (F.Files.faults port.new) result }
+    {
+        let mut buffer = Vec::new(alloc);
+        self.get_with(alloc, port, number, &mut buffer)
     }
-    let behind = blocks_up_to(&file.index, number);
-    if behind == 0 {
-        return Ok(None);
+
+    /// `get` with a buffer that is lent for the block. After an error the buffer may be empty.
+    pub fn get_with<F: Blocks<Sealed = S>>(
+        &self,
+        alloc: Global,
+        port: &mut F,
+        number: u64,
+        buffer: &mut Vec<u8>,
+    ) -> Result<Option<R>, Fault>
+        ensures found { IsSome (F.Files.told self.now.file.file) → (records : List R) → Represents R.kind F.Files.told self.now records →
+            MatchResult result (λ found. found ≡ record_of R.kind number records) (λ fault. IsOutside fault) }
+        ensures unread { (number < self.now.footer.first) ⊎ (self.now.footer.last < number) → (port.new ≡ port.old) × (result ≡ Ok None) }
+        ensures read { self.now.footer.first ≤ number → number ≤ self.now.footer.last →
+            IfOk result (λ found. IfSome (F.Files.told self.now.file.file) (λ bytes. self.now.file.len ≡ length bytes → IsGot R.kind bytes self.now number found)) }
+        ensures causes { IfErr result (λ fault. IfSome (F.Files.told self.now.file.file) (λ bytes. self.now.file.len ≡ length bytes →
+            IsOutside fault ⊎ IsSoughtRefused R.kind bytes self.now number fault)) }
+        ensures refusals { IfErr result (λ fault. IsOutside fault ⊎ IsBlockFault self.now.file.id self.now.index fault) }
+        ensures cause { HasCause Fault.ReadFault (F.Files.faults port.old) (F.Files.faults port.new) result }
+    {
+        if number < self.footer.first || number > self.footer.last {
+            return Ok(None);
+        }
+        let block = self.block_of(number);
+        let span = self.span(block);
+        let lent = mem::replace(buffer, Vec::new(alloc));
+        let frame = self.read_span(alloc, port, block, &span, lent)?;
+        let found = find_in_block(alloc, &span, frame.body(), number);
+        *buffer = frame.into_buffer();
+        found
     }
-    let frame = read_numbered::<F, R>(alloc, port, file, behind - 1)?;
-    let at = file.index[behind - 1].at;
-    find_in_block(alloc, file.file.id, at, frame.body(), number)
+
+    /// The body of the block in which the record of this number stands where the file has one, in a buffer that is lent; None where
+    /// the number is not from the first to the last one of the file. Reads that block, and judges its frame alone.
+    pub fn block_for<F: Blocks<Sealed = S>>(
+        &self,
+        alloc: Global,
+        port: &mut F,
+        number: u64,
+        buffer: Vec<u8>,
+    ) -> Result<Option<Block>, Fault>
+        ensures found { IsSome (F.Files.told self.now.file.file) → (records : List R) → Represents R.kind F.Files.told self.now records →
+            MatchResult result (λ found. IsBlockFor R.kind number records found) (λ fault. IsOutside fault) }
+        ensures unread { (number < self.now.footer.first) ⊎ (self.now.footer.last < number) → (port.new ≡ port.old) × (result ≡ Ok None) }
+        ensures refusals { IfErr result (λ fault. IsOutside fault ⊎ IsBlockFault self.now.file.id self.now.index fault) }
+        ensures cause { HasCause Fault.ReadFault (F.Files.faults port.old) (F.Files.faults port.new) result }
+    {
+        if number < self.footer.first || number > self.footer.last {
+            return Ok(None);
+        }
+        let block = self.block_of(number);
+        let span = self.span(block);
+        let frame = self.read_span(alloc, port, block, &span, buffer)?;
+        Ok(Some(frame))
+    }
+
+    /// The records whose numbers are above `after`, in rising order. Reads block after block, from the one on in which they begin, and
+    /// none where `after` is the last number or above it. Judges what it reads; where it reads the whole file and `after` is below the
+    /// first number, count and sum too.
+    pub fn scan<F: Blocks<Sealed = S>>(
+        &self,
+        alloc: Global,
+        port: &mut F,
+        after: u64,
+    ) -> Result<Vec<R>, Fault>
+        ensures scanned { IsSome (F.Files.told self.now.file.file) → (records : List R) → Represents R.kind F.Files.told self.now records →
+            MatchResult result (λ found. found.items ≡ filter (λ it. nat_lt after (R.kind.seq it)) records) (λ fault. IsOutside fault) }
+        ensures unread { self.now.footer.last ≤ after → (port.new ≡ port.old) × IsOkAnd result (λ found. found.items ≡ []) }
+        ensures whole { after < self.now.footer.first → IfOk result (λ found. IfSome (F.Files.told self.now.file.file) (λ bytes.
+            IsRead bytes self.now → IsFile R.kind bytes found.items)) }
+        ensures read { after < self.now.footer.last → IfOk result (λ found. IfSome (F.Files.told self.now.file.file) (λ bytes.
+            self.now.file.len ≡ length bytes → IsListed R.kind bytes self.now after found.items)) }
+        ensures causes { IfErr result (λ fault. IfSome (F.Files.told self.now.file.file) (λ bytes. self.now.file.len ≡ length bytes →
+            IsOutside fault ⊎ IsScanRefused R.kind bytes self.now after fault)) }
+        ensures refusals { IfErr result (λ fault. IsOutside fault ⊎ IsBlockFault self.now.file.id self.now.index fault
+            ⊎ (fault ≡ Fault.Malformed self.now.file.id (self.now.file.len - 65))) }
+        ensures cause { HasCause Fault.ReadFault (F.Files.faults port.old) (F.Files.faults port.new) result }
+    {
+        let mut records = Vec::new(alloc);
+        if after >= self.footer.last {
+            return Ok(records);
+        }
+        let mut before = BLOCK_LIMIT;
+        let mut last = 0;
+        let mut buffer = Vec::new(alloc);
+        let start = self.start(after);
+        for block in start..self.index.len() {
+            let span = self.span(block);
+            let frame = self.read_span(alloc, port, block, &span, buffer)?;
+            last = scan_block(alloc, &span, before, frame.body(), after, &mut records)?;
+            before = frame.body().len();
+            buffer = frame.into_buffer();
+        }
+        let count = records.len() as u64;
+        let sum = sum_of_sizes(&records);
+        self.check_totals(after, last, count, sum)?;
+        Ok(records)
+    }
+
+    /// Judges the footer by the last number that a scan read, and, where that read the records of the whole file, by their count and
+    /// the sum of their sizes.
+    fn check_totals(&self, after: u64, last: u64, count: u64, sum: u64) -> Result<(), Fault>
+        ensures told { IfOk result (λ _. HasTotals self.now after last count sum) }
+        ensures refusals { IfErr result (λ fault. (fault ≡ Fault.Malformed self.now.file.id (self.now.file.len - 65)) × (HasTotals self.now after last count sum → ⊥)) }
+    {
+        let whole = after < self.footer.first;
+        if last == self.footer.last
+            && (!whole || (count == self.footer.records && sum == self.footer.sum))
+        {
+            return Ok(());
+        }
+        Err(malformed(self.file.id, self.file.len.saturating_sub(FOOTER_LEN)))
+    }
+
+    /// The block of this number, from 0 on. One of another length than the index says is malformed.
+    fn read_span<F: Blocks<Sealed = S>>(
+        &self,
+        alloc: Global,
+        port: &mut F,
+        number: usize,
+        span: &Span,
+        buffer: Vec<u8>,
+    ) -> Result<Block, Fault>
+        requires is_span { IsSpan self.now number span.now }
+        requires at { span.now.at < 2 ^ 62 }
+        ensures read { IsSome (F.Files.told self.now.file.file) → (records : List R) → (holds : Represents R.kind F.Files.told self.now records) →
+            MatchResult result (λ body. IsBlock R.kind holds.blocks number body) (λ fault. IsOutside fault) }
+        ensures told { IfSome (F.Files.told self.now.file.file) (λ bytes. self.now.file.len ≡ length bytes →
+            Answers (block_body span.now.file bytes span.now.at span.now.len number) result) }
+        ensures stands { IfSome (F.Files.told self.now.file.file) (λ bytes. self.now.file.len ≡ length bytes →
+            IfOk result (λ body. StandsAt bytes span.now.at (number, body))) }
+        ensures len { IfOk result (λ body. length body + 20 ≡ span.now.len) }
+        ensures refusals { IfErr result (λ fault. IsOutside fault ⊎ IsBlockFault self.now.file.id self.now.index fault) }
+        ensures cause { HasCause Fault.ReadFault (F.Files.faults port.old) (F.Files.faults port.new) result }
+    {
+        port.block(alloc, &self.file, span.at, span.len, number as u64, buffer)
+    }
 }
 
-/// The records whose numbers are above `after`, in rising order. Reads block after block, from the one on in which they begin,
-/// and none where `after` is the last number or above it.
-pub fn scan_records<F: Files, R: Record>(
-    alloc: Global,
-    port: &mut F,
-    file: &RecordFile<F::Sealed>,
-    after: u64,
-) -> Result<Vec<R>, Fault>
-    ensures scanned { IsSome (F.told file.now.file.file) → (records : List R) → Holds R.kind F.told file.now records →
-        MatchResult result (λ found. found.items ≡ filter (λ it. nat_lt after (R.kind.seq it)) records) (λ fault. IsOutside fault) }
-    ensures unread { file.now.foot.last ≤ after → (port.new ≡ port.old) × IsOkAnd result (λ found. found.items ≡ []) }
-    ensures read { after < file.now.foot.last →
-        IfOk result (λ found. IfSome (F.told file.now.file.file) (λ bytes. IsRead file.now.file.id bytes file.now →
-        file.now.file.len ≡ length bytes → IsListed R.kind file.now.file.id bytes file.now.index after found.items)) }
-    ensures causes { IfErr result (λ fault. IfSome (F.told file.now.file.file) (λ bytes. file.now.file.len ≡ length bytes →
-        IsOutside fault ⊎ IsScanRefused R.kind file.now.file.id bytes file.now after fault)) }
-    ensures refusals { IfErr result (λ fault. IsOutside fault ⊎ IsBlockFault file.now.file.id file.now.index fault) }
-    ensures cause { HasCause Fault.ReadFault (F.faults port.old) (F.faults port.new) result }
+/// The sum of the records' sizes, which stays at the last number of 64 bits.
+fn sum_of_sizes<R: Record>(records: &[R]) -> u64
+    ensures { result ≡ min (sum_by R.kind.size records.now) (2 ^ 64 - 1) }
 {
-    let mut records = Vec::new(alloc);
-    if after >= file.last() {
-        return Ok(records);
+    let mut sum: u64 = 0;
+    for it in records {
+        sum = sum.saturating_add(u64::from(it.size()));
     }
-    let start = blocks_up_to(&file.index, after).saturating_sub(1);
-    for number in start..file.index.len() {
-        let frame = read_numbered::<F, R>(alloc, port, file, number)?;
-        let at = file.index[number].at;
-        scan_block(alloc, file.file.id, at, frame.body(), after, &mut records)?;
-    }
-    Ok(records)
-}
-
-/// How many blocks begin with a number that is at most this one.
-fn blocks_up_to(index: &[Entry], number: u64) -> usize
-    ensures bound { result ≤ length index.now }
-    ensures point { IsNonDecreasingBy (λ (e : Entry). e.first) index.now →
-        IsPartitionPoint (λ (e : Entry). e.first ≤ number) (λ (e : Entry). number < e.first) index.now result }
-{
-    index.partition_point(|entry| entry.first <= number)
-}
-
-/// Reads the frame of the block of this number, from 0 on. One of another length than the index says is malformed.
-fn read_numbered<F: Files, R: Record>(
-    alloc: Global,
-    port: &mut F,
-    file: &RecordFile<F::Sealed>,
-    number: usize,
-) -> Result<Frame, Fault>
-    requires { number < length file.now.index }
-    ensures read { IsSome (F.told file.now.file.file) → (records : List R) → (holds : Holds R.kind F.told file.now records) →
-        MatchResult result (λ body. IsBlock R.kind holds.blocks number body) (λ fault. IsOutside fault) }
-    ensures told { (entry : Entry) → slice_index_or file.now.index number entry ≡ entry →
-        IfSome (F.told file.now.file.file) (λ bytes. file.now.file.len ≡ length bytes →
-        Answers (block_body file.now.file.id bytes entry.at entry.len number) result) }
-    ensures refusals { IfErr result (λ fault. IsOutside fault ⊎ IsBlockFault file.now.file.id file.now.index fault) }
-    ensures cause { HasCause Fault.ReadFault (F.faults port.old) (F.faults port.new) result }
-{
-    let entry = file.index[number];
-    read_block(alloc, port, &file.file, entry.at, entry.len, number as u64)
+    sum
 }

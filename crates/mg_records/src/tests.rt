@@ -1,13 +1,13 @@
 use super::*;
 use mg_disk::Files;
 use mg_memdisk::{MemFiles, MemSealed};
-use mg_model::{Doc, Fault, FileId, Item, Key};
+use mg_types::{Doc, Fault, FileId, Item, Key, Kind};
 use std::alloc::Global;
 use std::test::Fail;
 
 const ID: FileId = FileId {
     part: 0,
-    kind: 2,
+    kind: Kind::Segment,
     number: 5,
 };
 
@@ -25,24 +25,23 @@ fn record(alloc: Global, seq: u64) -> Result<Item, Fault> {
 }
 
 /// The file of the records 10, 20 and so on to 100, in blocks that begin at 10, 50 and 90.
-fn ten(alloc: Global, port: &mut MemFiles) -> Result<RecordFile<MemSealed>, Fault> {
-    let mut writer = start_records::<MemFiles, Item>(alloc, port)?;
+fn ten(alloc: Global, port: &mut MemFiles) -> Result<RecordFile<MemSealed, Item>, Fault> {
+    let mut writer = RecordWriter::new(alloc, port, ID)?;
     for tenth in 1..11 {
         let it = record(alloc, 10 * tenth)?;
-        parts_fit(&it);
-        if writer.is_full() || it.seq >= 1 << 62 || !writer.may_follow(it.seq) {
+        if !writer.takes(&it) {
             return Err(Fault::BadWords);
         }
-        push_record(alloc, port, &mut writer, &it)?;
+        writer.push(alloc, port, &it)?;
     }
-    if writer.is_empty() {
+    if writer.count() == 0 {
         return Err(Fault::BadWords);
     }
-    finish_records::<MemFiles, Item>(alloc, port, writer, ID)
+    writer.finish(alloc, port)
 }
 
-/// The same file, opened again.
-fn opened(alloc: Global, port: &mut MemFiles) -> Result<RecordFile<MemSealed>, Fault> {
+/// The same file, loaded again.
+fn opened(alloc: Global, port: &mut MemFiles) -> Result<RecordFile<MemSealed, Item>, Fault> {
     let written = ten(alloc, port)?;
     let sealed = written.sealed();
     let Ok(again) = port.share(alloc, &sealed.file) else {
@@ -51,17 +50,17 @@ fn opened(alloc: Global, port: &mut MemFiles) -> Result<RecordFile<MemSealed>, F
     if sealed.len >= 1 << 62 {
         return Err(Fault::BadWords);
     }
-    load_records::<MemFiles, Item>(alloc, port, ID, again, sealed.len)
+    RecordFile::load(alloc, port, ID, again, sealed.len)
 }
 
 fn numbers_above(
     alloc: Global,
     port: &mut MemFiles,
-    file: &RecordFile<MemSealed>,
+    file: &RecordFile<MemSealed, Item>,
     after: u64,
 ) -> Result<Vec<u64>, Fault> {
     let mut numbers = Vec::new(alloc);
-    for it in &scan_records::<MemFiles, Item>(alloc, port, file, after)? {
+    for it in &file.scan(alloc, port, after)? {
         numbers.push(it.seq)?;
     }
     Ok(numbers)
@@ -76,7 +75,7 @@ fn a_file_says_what_it_has(rt: HostRuntime) -> Result<(), Fail> {
     assert_eq!(rt; file.bytes(), 10_010);
     assert_eq!(rt; file.first(), 10);
     assert_eq!(rt; file.last(), 100);
-    // three blocks, an index of three items and the foot
+    // three blocks, an index of three items and the footer
     assert_eq!(rt; file.sealed().len, 10_150 + 60 + 80 + 65);
     Ok(())
 }
@@ -99,7 +98,7 @@ fn a_record_is_found_by_its_number(rt: HostRuntime) -> Result<(), Fail> {
         (101, false),
         (u64::MAX, false),
     ] {
-        let found = get_record::<MemFiles, Item>(alloc, &mut port, &file, number)?;
+        let found = file.get(alloc, &mut port, number)?;
         assert_eq!(rt; found.map(|it| it.seq), there.then_some(number));
     }
     Ok(())
@@ -122,18 +121,42 @@ fn records_are_listed_from_a_number_on(rt: HostRuntime) -> Result<(), Fail> {
 }
 
 #[test]
+fn a_load_reads_the_footer_and_the_index_alone(rt: HostRuntime) -> Result<(), Fail> {
+    let alloc = rt.alloc();
+    let first = MemFiles::new(Vec::new(alloc));
+    let mut writing = MemFiles::new(Vec::new(alloc));
+    let written = ten(alloc, &mut writing)?;
+    let sealed = written.sealed();
+    if sealed.len >= 1 << 62 {
+        return Err(Fault::BadWords)?;
+    }
+    // of these ports the third or the fourth call fails: a load asks for the length and makes two reads
+    for (failing, loads) in [(3, false), (4, true)] {
+        let again = first.share(alloc, &sealed.file)?;
+        let mut port = MemFiles::new(vec![in alloc; failing]?);
+        let loaded = RecordFile::<MemSealed, Item>::load(alloc, &mut port, ID, again, sealed.len);
+        assert_eq!(rt; loaded.is_ok(), loads);
+    }
+    Ok(())
+}
+
+#[test]
 fn no_more_blocks_are_read_than_are_wanted(rt: HostRuntime) -> Result<(), Fail> {
     let alloc = rt.alloc();
     let file = opened(alloc, &mut MemFiles::new(Vec::new(alloc)))?;
     // the first call of this port fails, and no later one
     let mut port = MemFiles::new(vec![in alloc; 1]?);
     for number in [9, 101] {
-        let none = get_record::<MemFiles, Item>(alloc, &mut port, &file, number)?;
+        let none = file.get(alloc, &mut port, number)?;
         assert!(rt; none.is_none());
     }
-    let failed = get_record::<MemFiles, Item>(alloc, &mut port, &file, 20);
+    let failed = file.get(alloc, &mut port, 20);
     assert!(rt; matches!(failed, Err(Fault::ReadFault)));
-    let found = get_record::<MemFiles, Item>(alloc, &mut port, &file, 20)?;
+    let found = file.get(alloc, &mut port, 20)?;
+    assert!(rt; found.is_some());
+    // the second call of this port fails: a get makes one
+    let mut port = MemFiles::new(vec![in alloc; 2]?);
+    let found = file.get(alloc, &mut port, 50)?;
     assert!(rt; found.is_some());
     for (after, blocks) in [(0, 3), (49, 3), (50, 2), (89, 2), (90, 1), (100, 0)] {
         for failing in 1..5 {

@@ -1,48 +1,52 @@
 //! A file of records in writing.
 
-ghost use Rattle.std.specs.Prelude.{◌≡◌, ℕ, ◌+◌, ◌<◌, ◌≤◌, ◌^◌, ◌↔◌, ◌⊎◌, List, [], ◌∷◌, ◌++◌, length, IfOk, IfErr, OnOk, OnErr, IsTrue};
+ghost use Rattle.std.specs.Prelude.{◌≡◌, ◌≢◌, ℕ, ◌+◌, ◌*◌, ◌<◌, ◌≤◌, ◌^◌, ◌↔◌, ◌⊎◌, List, [], ◌∷◌, ◌++◌, length, take, IfOk, IfErr, OnOk, OnErr, IsTrue};
 ghost use Rattle.mg_faults.specs.Causes.{HasCause};
-ghost use Rattle.mg_records.specs.Writing.{AreNear, HasRecords, HasRoom, Holds, IsPut, MayFollow};
+ghost use Rattle.mg_records.specs.Record.{IsRecord, record_bytes};
+ghost use Rattle.mg_records.specs.Writing.{HasRecords, IsClosing, IsFull, IsPut, MayFollow, Represents};
 ghost use Rattle.mg_sealed.specs.Answers.{IsUnwritten};
 ghost use Rattle.mg_sealed.specs.Writing.{HasFrames};
 
 use crate::file::RecordFile;
-use crate::foot::{Foot, put_foot};
-use crate::index::{Entry, put_index};
+use crate::footer::{Footer, put_footer};
+use crate::index::{BlockHandle, HANDLE_LEN, put_index};
 use crate::record::Record;
 use mg_disk::Files;
-use mg_frame::FRAME_OVERHEAD;
-use mg_model::{Fault, FileId};
-use mg_sealed::{FrameWriter, append_frame, seal_frames, start_frames};
+use mg_frame::{FRAME_OVERHEAD, put_u64};
+use mg_sealed::{BLOCK_LIMIT, FrameWriter, append_frame, seal_frames, start_frames};
+use mg_types::{Fault, FileId, is_seq};
 use std::alloc::{AllocError, Global};
-use std::marker::Model;
+use std::marker::{Model, PhantomData};
 
-/// A block of several records has at most so many bytes.
-const BLOCK_LIMIT: usize = 4_096;
+/// A file has at most so many blocks: the body of its index has at most 2^32 - 1 bytes.
+const MOST_BLOCKS: usize = 214_748_364;
 
-/// A file has at most so many blocks, 2^23.
-const MOST_BLOCKS: usize = 8_388_608;
+/// A record's number takes so many bytes in a block.
+const NUMBER_LEN: usize = 8;
 
-/// A file of records in writing, which are put one after the other. It keeps the block in writing, in the memory of two of
-/// them, and the index. After an error it is only dropped.
+/// A file of records of one kind in writing, which are put one after the other. It keeps the block in writing, in the memory of two
+/// of them, and the index. After an error other than `Worn` it is only dropped.
 #[derive(Drop)]
-pub struct RecordWriter<D> {
+pub struct RecordWriter<D, R> {
+    id: FileId,
     frames: FrameWriter<D>,
-    index: Vec<Entry>,
+    index: Vec<BlockHandle>,
     block: Vec<u8>,
     block_first: u64,
     records: u64,
     sum: u64,
     first: u64,
     last: u64,
+    kind: PhantomData<R>,
 }
 
-impl<D> Model for RecordWriter<D> {
+impl<D, R> Model for RecordWriter<D, R> {
     ghost use Rattle.mg_records.specs.Writing.{Filing, IsBounded};
 
     ghost Value = { Filing D };
 
     ghost view = { λ w. record {
+      id = w.id;
       frames = w.frames;
       index = w.index.items;
       block = w.block.items;
@@ -54,6 +58,7 @@ impl<D> Model for RecordWriter<D> {
     } };
 
     ghost invariant = { λ w. IsBounded (record {
+      id = w.id;
       frames = w.frames;
       index = w.index.items;
       block = w.block.items;
@@ -65,179 +70,220 @@ impl<D> Model for RecordWriter<D> {
     }) };
 }
 
-impl<D> RecordWriter<D> {
-    /// Whether no further record may be put: the file has 2^23 blocks.
-    pub fn is_full(&self) -> bool
-        ensures { IsTrue result ↔ (HasRoom self.now → ⊥) }
+impl<D: Drop, R: Record> RecordWriter<D, R> {
+    /// A file without a record. Takes no memory of its own.
+    pub fn new<F: Files<Draft = D>>(
+        alloc: Global,
+        port: &mut F,
+        id: FileId,
+    ) -> Result<RecordWriter<D, R>, Fault>
+        ensures empty { IfOk result (λ writer. HasRecords R.kind F.drafted writer []) }
+        ensures none { IfOk result (λ writer. writer.records ≡ 0) }
+        ensures id { IfOk result (λ writer. writer.id ≡ id) }
+        ensures outside { IfErr result (λ fault. IsUnwritten fault) }
+        ensures cause { HasCause Fault.WriteFault (F.faults port.old) (F.faults port.new) result }
     {
-        self.index.len() >= MOST_BLOCKS - 1
+        Ok(RecordWriter {
+            id,
+            frames: start_frames(alloc, port)?,
+            index: Vec::new(alloc),
+            block: Vec::new(alloc),
+            block_first: 0,
+            records: 0,
+            sum: 0,
+            first: 0,
+            last: 0,
+            kind: PhantomData,
+        })
     }
 
-    /// Whether the file has no record.
-    pub fn is_empty(&self) -> bool
-        ensures { IsTrue result ↔ (self.now.records ≡ 0) }
+    /// How many records were put.
+    pub fn count(&self) -> u64
+        ensures { result ≡ self.now.records }
     {
-        self.records == 0
+        self.records
     }
 
-    /// Whether a record of this number may be put: it is above the last one.
-    pub fn may_follow(&self, number: u64) -> bool
-        ensures { IsTrue result ↔ MayFollow self.now number }
+    /// Whether the record may be put: it may stand in a file, and its number is above the last one.
+    pub fn takes(&self, it: &R) -> bool
+        ensures { IsTrue result ↔ IsRecord R.kind it.now × MayFollow self.now (R.kind.seq it.now) }
     {
-        self.records == 0 || self.last < number
+        let number = it.seq();
+        is_seq(number) && it.fits() && (self.records == 0 || self.last < number)
     }
-}
 
-/// A file without a record. Takes no memory of its own.
-pub fn start_records<F: Files, R: Record>(
-    alloc: Global,
-    port: &mut F,
-) -> Result<RecordWriter<F::Draft>, Fault>
-    ensures empty { IfOk result (λ writer. HasRecords R.kind F.drafted writer []) }
-    ensures room { IfOk result (λ writer. HasRoom writer) }
-    ensures outside { IfErr result (λ fault. IsUnwritten fault) }
-    ensures cause { HasCause Fault.WriteFault (F.faults port.old) (F.faults port.new) result }
-{
-    Ok(RecordWriter {
-        frames: start_frames(alloc, port)?,
-        index: Vec::new(alloc),
-        block: Vec::new(alloc),
-        block_first: 0,
-        records: 0,
-        sum: 0,
-        first: 0,
-        last: 0,
-    })
-}
+    /// Puts a record behind the others. Where the block in writing has no room for it, that block is put into the file first, in one
+    /// append. Where the index would then pass what a frame can hold, the answer is `Worn` with the length of its body as it stands, and the
+    /// writer is as before: it may still be finished.
+    pub fn push<F: Files<Draft = D>>(
+        &mut self,
+        alloc: Global,
+        port: &mut F,
+        it: &R,
+    ) -> Result<(), Fault>
+        requires fits { IsRecord R.kind it.now }
+        requires rises { MayFollow self.old (R.kind.seq it.now) }
+        ensures records { (records : List R) → HasRecords R.kind F.drafted self.old records →
+            OnOk result (HasRecords R.kind F.drafted self.new (records ++ it.now ∷ [])) }
+        ensures last { OnOk result (self.new.last ≡ R.kind.seq it.now) }
+        ensures count { OnOk result (self.new.records ≡ self.old.records + 1) }
+        ensures id { self.new.id ≡ self.old.id }
+        ensures worn { (kept : ℕ) → IfErr result (λ fault. fault ≡ Fault.Worn kept → IsFull R.kind self.old it.now × (kept ≡ 20 * (length self.old.index + 1)) × (self.new ≡ self.old)) }
+        ensures refusals { IfErr result (λ fault. IsUnwritten fault ⊎ (fault ≡ Fault.Worn (20 * (length self.old.index + 1)))) }
+        ensures cause { HasCause Fault.WriteFault (F.faults port.old) (F.faults port.new) result }
+    {
+        let len = NUMBER_LEN + it.contents_len();
+        if !self.block.is_empty() && self.block.len() + len > BLOCK_LIMIT {
+            let blocks = self.index.len() + 1;
+            if blocks >= MOST_BLOCKS {
+                return Err(Fault::Worn {
+                    kept: (HANDLE_LEN * blocks) as u64,
+                });
+            }
+            self.close_block(alloc, port)?;
+        }
+        self.put_record(it)?;
+        Ok(())
+    }
 
-/// Puts a record behind the others. Where the block in writing has no room for it, that block is put into the file first, in
-/// one append.
-pub fn push_record<F: Files, R: Record>(
-    alloc: Global,
-    port: &mut F,
-    writer: &mut RecordWriter<F::Draft>,
-    it: &R,
-) -> Result<(), Fault>
-    requires fits { R.kind.fits it.now }
-    requires rises { MayFollow writer.old (R.kind.seq it.now) }
-    requires room { HasRoom writer.old }
-    ensures records { (records : List R) → HasRecords R.kind F.drafted writer.old records →
-        OnOk result (HasRecords R.kind F.drafted writer.new (records ++ it.now ∷ [])) }
-    ensures last { OnOk result (writer.new.last ≡ R.kind.seq it.now) }
-    ensures outside { IfErr result (λ fault. IsUnwritten fault) }
-    ensures cause { HasCause Fault.WriteFault (F.faults port.old) (F.faults port.new) result }
-{
-    let len = it.spelled_len();
-    if !writer.block.is_empty() && writer.block.len() + len > BLOCK_LIMIT {
+    /// The file as one that never changes, synced, with its index and its footer behind the blocks.
+    pub fn finish<F: Files<Draft = D>>(
+        self,
+        alloc: Global,
+        port: &mut F,
+    ) -> Result<RecordFile<F::Sealed, R>, Fault>
+        requires some { 0 < self.records }
+        ensures represents { (records : List R) → HasRecords R.kind F.drafted self records →
+            IfOk result (λ file. Represents R.kind F.told file records) }
+        ensures id { IfOk result (λ file. file.file.id ≡ self.id) }
+        ensures outside { IfErr result (λ fault. IsUnwritten fault) }
+        ensures cause { HasCause Fault.WriteFault (F.faults port.old) (F.faults port.new) result }
+    {
+        let RecordWriter {
+            id,
+            mut frames,
+            mut index,
+            mut block,
+            block_first,
+            records,
+            sum,
+            first,
+            last,
+            kind,
+        } = self;
+        if !block.is_empty() {
+            put_block(alloc, port, &mut frames, &mut index, block_first, &block)?;
+        }
+        let footer = Footer {
+            records,
+            sum,
+            first,
+            last,
+            index: frames.len(),
+            blocks: index.len() as u32,
+        };
+        block.clear();
+        put_index(&index, &mut block)?;
+        append_frame(alloc, port, &mut frames, &block)?;
+        block.clear();
+        put_footer(&footer, &mut block)?;
+        append_frame(alloc, port, &mut frames, &block)?;
+        let file = seal_frames(alloc, port, frames, id)?;
+        Ok(RecordFile {
+            file,
+            footer,
+            index,
+            kind,
+        })
+    }
+
+    /// Puts the block in writing into the file, and its handle into the index.
+    fn close_block<F: Files<Draft = D>>(&mut self, alloc: Global, port: &mut F) -> Result<(), Fault>
+        requires some { self.old.block ≢ [] }
+        requires room { 20 * (length self.old.index + 2) < 2 ^ 32 }
+        ensures closed { OnOk result (IsClosing F.drafted self.old self.new) }
+        ensures id { self.new.id ≡ self.old.id }
+        ensures outside { IfErr result (λ fault. IsUnwritten fault) }
+        ensures cause { HasCause Fault.WriteFault (F.faults port.old) (F.faults port.new) result }
+    {
         put_block(
             alloc,
             port,
-            &mut writer.frames,
-            &mut writer.index,
-            writer.block_first,
-            &writer.block,
+            &mut self.frames,
+            &mut self.index,
+            self.block_first,
+            &self.block,
         )?;
-        writer.block.clear();
+        self.block.clear();
+        Ok(())
     }
-    put_record(writer, it)?;
-    Ok(())
+
+    /// Puts a record into the block in writing.
+    fn put_record(&mut self, it: &R) -> Result<(), AllocError>
+        requires fits { IsRecord R.kind it.now }
+        requires rises { MayFollow self.old (R.kind.seq it.now) }
+        requires room { (self.old.block ≡ []) ⊎ (length self.old.block + length (record_bytes R.kind it.now) ≤ 4096) }
+        ensures put { OnOk result (IsPut R.kind self.old it.now self.new) }
+        ensures id { self.new.id ≡ self.old.id }
+    {
+        let number = it.seq();
+        let len = self.block.len();
+        if put_into(it, &mut self.block).is_err() {
+            self.block.truncate(len);
+            return Err(AllocError);
+        }
+        if len == 0 {
+            self.block_first = number;
+        }
+        if self.records == 0 {
+            self.first = number;
+        }
+        self.records += 1;
+        self.sum += u64::from(it.size());
+        self.last = number;
+        Ok(())
+    }
 }
 
-/// The file as one that never changes, synced, with its index and its foot behind the blocks.
-pub fn finish_records<F: Files, R: Record>(
-    alloc: Global,
-    port: &mut F,
-    writer: RecordWriter<F::Draft>,
-    id: FileId,
-) -> Result<RecordFile<F::Sealed>, Fault>
-    requires some { 0 < writer.records }
-    ensures holds { (records : List R) → HasRecords R.kind F.drafted writer records →
-        IfOk result (λ file. Holds R.kind F.told file records) }
-    ensures id { IfOk result (λ file. file.file.id ≡ id) }
-    ensures outside { IfErr result (λ fault. IsUnwritten fault) }
-    ensures cause { HasCause Fault.WriteFault (F.faults port.old) (F.faults port.new) result }
+/// Appends a record's bytes. After an error a front of them may stand there.
+fn put_into<R: Record>(it: &R, out: &mut Vec<u8>) -> Result<(), AllocError>
+    requires { R.kind.fits it.now }
+    ensures put { OnOk result (out.new.items ≡ out.old.items ++ record_bytes R.kind it.now) }
+    ensures front { take (length out.old.items) out.new.items ≡ out.old.items }
 {
-    let RecordWriter {
-        mut frames,
-        mut index,
-        mut block,
-        block_first,
-        records,
-        sum,
-        first,
-        last,
-    } = writer;
-    put_block(alloc, port, &mut frames, &mut index, block_first, &block)?;
-    let foot = Foot {
-        records,
-        sum,
-        first,
-        last,
-        index: frames.len(),
-        blocks: index.len() as u32,
-    };
-    block.clear();
-    put_index(&index, &mut block)?;
-    append_frame(alloc, port, &mut frames, &block)?;
-    block.clear();
-    put_foot(&foot, &mut block)?;
-    append_frame(alloc, port, &mut frames, &block)?;
-    let file = seal_frames(alloc, port, frames, id)?;
-    Ok(RecordFile { file, foot, index })
+    put_u64(it.seq(), out)?;
+    it.put_contents(out)
 }
 
-/// Puts a block into the file, and an item for it into the index.
+/// Puts a block into the file, and a handle for it into the index.
 fn put_block<F: Files>(
     alloc: Global,
     port: &mut F,
     frames: &mut FrameWriter<F::Draft>,
-    index: &mut Vec<Entry>,
+    index: &mut Vec<BlockHandle>,
     first: u64,
     block: &[u8],
 ) -> Result<(), Fault>
     requires block { length block.now ≤ 2 ^ 21 }
-    requires room { frames.old.len ≤ 2 ^ 45 }
+    requires room { frames.old.len ≤ 2 ^ 51 }
     ensures frames { (bodies : List (List ℕ)) → HasFrames F.drafted frames.old bodies →
         OnOk result (HasFrames F.drafted frames.new (bodies ++ block.now ∷ [])) }
     ensures index { OnOk result (index.new.items ≡
         index.old.items ++ record { first = first; at = frames.old.len; len = length block.now + 20 } ∷ []) }
     ensures len { OnOk result (frames.new.len ≡ frames.old.len + length block.now + 20) }
-    ensures near { AreNear index.old.items → AreNear index.new.items }
-    ensures kept { OnErr result (frames.new.len ≡ frames.old.len) }
-    ensures no_fewer { length index.old.items ≤ length index.new.items }
-    ensures one_more { length index.new.items ≤ length index.old.items + 1 }
+    ensures kept { OnErr result ((frames.new.len ≡ frames.old.len) × (index.new.items ≡ index.old.items)) }
     ensures outside { IfErr result (λ fault. IsUnwritten fault) }
     ensures cause { HasCause Fault.WriteFault (F.faults port.old) (F.faults port.new) result }
 {
-    index.push(Entry {
+    let blocks = index.len();
+    index.push(BlockHandle {
         first,
         at: frames.len(),
         len: block.len() as u32 + FRAME_OVERHEAD as u32,
     })?;
-    append_frame(alloc, port, frames, block)?;
-    Ok(())
-}
-
-/// Puts a record into the block in writing.
-fn put_record<D, R: Record>(writer: &mut RecordWriter<D>, it: &R) -> Result<(), AllocError>
-    requires fits { R.kind.fits it.now }
-    requires room { (writer.old.block ≡ []) ⊎ (length writer.old.block + length (R.kind.spelled it.now) ≤ 4096) }
-    ensures put { OnOk result (IsPut R.kind writer.old it.now writer.new) }
-{
-    let number = it.seq();
-    let len = writer.block.len();
-    if len == 0 {
-        writer.block_first = number;
+    if let Err(fault) = append_frame(alloc, port, frames, block) {
+        index.truncate(blocks);
+        return Err(fault);
     }
-    if it.put(&mut writer.block).is_err() {
-        writer.block.truncate(len);
-        return Err(AllocError);
-    }
-    if writer.records == 0 {
-        writer.first = number;
-    }
-    writer.records = writer.records.saturating_add(1);
-    writer.sum = writer.sum.saturating_add(u64::from(it.size()));
-    writer.last = number;
     Ok(())
 }

@@ -2,16 +2,17 @@
 //!
 //! A record is its number in 8 bytes, a byte for its kind (1 a set, 2 a delete), the key after its count of one byte, and
 //! for a set the document after its count of 4 bytes. Numbers and counts are big-endian. The records stand in blocks, behind
-//! which come an index of the blocks and a foot.
+//! which come an index of the blocks and a footer.
 #![tactic(auto)]
 
-mod reading;
-mod segment;
-mod writer;
+use mg_records::{RecordFile, RecordWriter};
+use mg_types::Item;
 
-pub use reading::{get_item, load_segment, scan_items};
-pub use segment::Segment;
-pub use writer::{SegmentWriter, finish_segment, push_item, start_segment};
+/// A segment that is whole.
+pub type Segment<S> = RecordFile<S, Item>;
+
+/// A segment in writing.
+pub type SegmentWriter<D> = RecordWriter<D, Item>;
 
 #[cfg(test)]
 mod tests;

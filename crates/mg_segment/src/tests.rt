@@ -1,14 +1,14 @@
 use super::*;
 use mg_disk::Files;
 use mg_memdisk::{MemDraft, MemFiles, MemSealed};
-use mg_model::{Doc, Fault, FileId, Item, Key};
-use mg_records::{Front, Record};
+use mg_records::Record;
+use mg_types::{Doc, Fault, FileId, Key, Kind};
 use std::alloc::Global;
 use std::test::Fail;
 
 const ID: FileId = FileId {
     part: 0,
-    kind: 2,
+    kind: Kind::Segment,
     number: 5,
 };
 
@@ -37,10 +37,10 @@ fn push(
     writer: &mut SegmentWriter<MemDraft>,
     item: &Item,
 ) -> Result<(), Fault> {
-    if writer.is_full() || item.seq >= 1 << 62 || !writer.may_follow(item.seq) {
+    if !writer.takes(item) {
         return Err(Fault::BadWords);
     }
-    push_item(alloc, port, writer, item)
+    writer.push(alloc, port, item)
 }
 
 fn finish(
@@ -48,25 +48,24 @@ fn finish(
     port: &mut MemFiles,
     writer: SegmentWriter<MemDraft>,
 ) -> Result<Segment<MemSealed>, Fault> {
-    if writer.is_empty() {
+    if writer.count() == 0 {
         return Err(Fault::BadWords);
     }
-    finish_segment(alloc, port, writer, ID)
+    writer.finish(alloc, port)
 }
 
 #[test]
 fn a_segment_is_the_worked_one(rt: HostRuntime) -> Result<(), Fail> {
     let alloc = rt.alloc();
     let mut port = MemFiles::new(Vec::new(alloc));
-    let mut writer = start_segment(alloc, &mut port)?;
-    assert!(rt; writer.is_empty());
+    let mut writer = SegmentWriter::new(alloc, &mut port, ID)?;
     push(
         alloc,
         &mut port,
         &mut writer,
         &item(alloc, 2, b"b", Some(b"y"))?,
     )?;
-    assert!(rt; !writer.may_follow(2));
+    assert!(rt; !writer.takes(&item(alloc, 2, b"b", None)?));
     push(
         alloc,
         &mut port,
@@ -87,42 +86,20 @@ fn a_segment_is_the_worked_one(rt: HostRuntime) -> Result<(), Fail> {
 }
 
 #[test]
-fn what_bytes_begin_with(rt: HostRuntime) {
-    let great = Front::Great { number: 1 << 62 };
-    let set = Front::Whole {
-        seq: 2,
-        size: 2,
-        len: 16,
-    };
-    let delete = Front::Whole {
-        seq: 3,
-        size: 2,
-        len: 12,
-    };
-    for (bytes, want) in [
-        (b"\0\0\0\0\0\0\0\x02\x01\x01b\0\0\0\x01y".as_slice(), set),
-        (b"\0\0\0\0\0\0\0\x02\x01\x01b\0\0\0\x01yz".as_slice(), set),
-        (b"\0\0\0\0\0\0\0\x03\x02\x02qr".as_slice(), delete),
-        (b"\x40\0\0\0\0\0\0\0".as_slice(), great),
-        (b"\0\0\0\0\0\0\0\x02\x03\x01b".as_slice(), Front::Outside),
-        (b"\0\0\0\0\0\0\0\x02\x02\0b".as_slice(), Front::Outside),
-        (b"\0\0\0\0\0\0\0\x02\x02\x02b".as_slice(), Front::Outside),
-        (
-            b"\0\0\0\0\0\0\0\x02\x01\x01b\0\0\0".as_slice(),
-            Front::Outside,
-        ),
-        (
-            b"\0\0\0\0\0\0\0\x02\x01\x01b\0\0\0\x02y".as_slice(),
-            Front::Outside,
-        ),
-        (
-            b"\0\0\0\0\0\0\0\x02\x01\x01b\0\x10\0\x01y".as_slice(),
-            Front::Outside,
-        ),
-        (b"\0\0\0\0\0\0\0\x02".as_slice(), Front::Outside),
-        (b"\0\0\0\0\0\0\0".as_slice(), Front::Outside),
+fn what_contents_bytes_begin_with(rt: HostRuntime) {
+    for (bytes, len) in [
+        (b"\x01\x01b\0\0\0\x01y".as_slice(), Some(8)),
+        (b"\x01\x01b\0\0\0\x01yz".as_slice(), Some(8)),
+        (b"\x02\x02qr".as_slice(), Some(4)),
+        (b"\x03\x01b".as_slice(), None),
+        (b"\x02\0b".as_slice(), None),
+        (b"\x02\x02b".as_slice(), None),
+        (b"\x01\x01b\0\0\0".as_slice(), None),
+        (b"\x01\x01b\0\0\0\x02y".as_slice(), None),
+        (b"\x01\x01b\0\x10\0\x01y".as_slice(), None),
+        (b"".as_slice(), None),
     ] {
-        assert_eq!(rt; Item::measure(bytes), want);
+        assert_eq!(rt; Item::measure(bytes), len);
     }
 }
 
@@ -145,14 +122,14 @@ fn load(
     let Ok(file) = port.seal(alloc, draft) else {
         return Err(Fault::WriteFault);
     };
-    load_segment(alloc, port, ID, file, len)
+    Segment::load(alloc, port, ID, file, len)
 }
 
 /// All mutations of a file of these bytes.
 fn read_all(alloc: Global, bytes: &[u8]) -> Result<Vec<Item>, Fault> {
     let mut port = MemFiles::new(Vec::new(alloc));
     let segment = load(alloc, &mut port, bytes, bytes.len() as u64)?;
-    scan_items(alloc, &mut port, &segment, 0)
+    segment.scan(alloc, &mut port, 0)
 }
 
 fn is_item(item: &Item, seq: u64, key: &[u8], doc: &[u8]) -> bool {
@@ -185,20 +162,20 @@ fn a_segment_is_read(rt: HostRuntime) -> Result<(), Fail> {
     let mut port = MemFiles::new(Vec::new(alloc));
     let segment = load(alloc, &mut port, SEGMENT, 157)?;
     assert_eq!(rt; segment.count(), 2);
-    let found = get_item(alloc, &mut port, &segment, 3)?;
+    let found = segment.get(alloc, &mut port, 3)?;
     assert!(rt; found.is_some_and(|item| is_item(&item, 3, b"a", b"z")));
     for absent in [0, 1, 4, u64::MAX] {
-        assert!(rt; get_item(alloc, &mut port, &segment, absent)?.is_none());
+        assert!(rt; segment.get(alloc, &mut port, absent)?.is_none());
     }
-    let all = scan_items(alloc, &mut port, &segment, 0)?;
+    let all = segment.scan(alloc, &mut port, 0)?;
     assert!(rt; is_worked(&all));
-    let rest = scan_items(alloc, &mut port, &segment, 2)?;
+    let rest = segment.scan(alloc, &mut port, 2)?;
     assert_eq!(rt; rest.len(), 1);
     assert!(rt;
         rest.first()
             .is_some_and(|item| is_item(item, 3, b"a", b"z"))
     );
-    assert!(rt; scan_items(alloc, &mut port, &segment, 3)?.is_empty());
+    assert!(rt; segment.scan(alloc, &mut port, 3)?.is_empty());
     Ok(())
 }
 
@@ -246,7 +223,7 @@ fn the_shortest_and_the_longest_document_pass(rt: HostRuntime) -> Result<(), Fai
     let alloc = rt.alloc();
     let longest = vec![in alloc; b'd'; 1_048_576]?;
     let mut port = MemFiles::new(Vec::new(alloc));
-    let mut writer = start_segment(alloc, &mut port)?;
+    let mut writer = SegmentWriter::new(alloc, &mut port, ID)?;
     push(
         alloc,
         &mut port,
@@ -262,11 +239,11 @@ fn the_shortest_and_the_longest_document_pass(rt: HostRuntime) -> Result<(), Fai
     push(alloc, &mut port, &mut writer, &item(alloc, 3, b"a", None)?)?;
     let segment = finish(alloc, &mut port, writer)?;
     assert_eq!(rt; segment.bytes(), 1_048_579);
-    let first = get_item(alloc, &mut port, &segment, 1)?;
+    let first = segment.get(alloc, &mut port, 1)?;
     assert!(rt; first.is_some_and(|item| is_item(&item, 1, b"a", b"")));
-    let second = get_item(alloc, &mut port, &segment, 2)?;
+    let second = segment.get(alloc, &mut port, 2)?;
     assert!(rt; second.is_some_and(|item| is_item(&item, 2, b"b", &longest)));
-    let third = get_item(alloc, &mut port, &segment, 3)?;
+    let third = segment.get(alloc, &mut port, 3)?;
     assert!(rt; third.is_some_and(|item| item.doc.is_none()));
     Ok(())
 }

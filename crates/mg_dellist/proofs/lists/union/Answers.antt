@@ -1,5 +1,5 @@
 use Rattle.std.proofs.Common.{◌≢◌, ◌+◌, ◌<◌, ◌≤◌, List, drop, get_or, sym, subst, arith}
-use Rattle.mg_dellist.specs.declared.dead.Dead.{Dead}
+use Rattle.mg_types.specs.declared.items.Dead.{Dead}
 use Rattle.mg_dellist.proofs.Merges.{Merging, Merging-take_left, Merging-take_right}
 use Rattle.mg_dellist.proofs.lists.union.Goals as goal
 

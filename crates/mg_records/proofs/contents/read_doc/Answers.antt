@@ -2,7 +2,7 @@ use Rattle.std.proofs.Common.{◌≡◌, ℕ, ◌<◌, List, ◌++◌, length, d
 use Rattle.std.specs.Option.{IfSome}
 use Rattle.mg_frame.specs.BigEndian.{front_list}
 use Rattle.mg_frame.proofs.BigEndianLaws.{front_list_spelled, AreBytes-from_reads, AreBytes-drop}
-use Rattle.mg_model.specs.Bytes.{IsDoc}
+use Rattle.mg_types.specs.Bytes.{IsDoc}
 use Rattle.mg_records.specs.Contents.{doc_part, kind_of}
 use Rattle.mg_records.specs.ContentsLaws.{doc_read}
 use Rattle.mg_records.proofs.contents.read_doc.Goals as goal

@@ -1,0 +1,11 @@
+use Rattle.std.proofs.Common.{leb, leb-true, rules}
+use Rattle.std.proofs.lemmas.Bool.{leb-false}
+use Rattle.std.proofs.lemmas.List.Sorted.{IsPartitionPoint-from_clause, IsPartitionedBy-leb}
+use Rattle.mg_records.specs.declared.index.BlockHandle.{BlockHandle}
+use Rattle.mg_records.proofs.file.blocks_up_to.Goals as goal
+
+pub returns-clause-point : goal.returns-clause-point
+returns-clause-point c = λ rises.
+    let parted = IsPartitionedBy-leb (λ (e : BlockHandle). e.first) _ c.args.number rises in
+    let point = IsPartitionPoint-from_clause (λ (e : BlockHandle). leb e.first c.args.number) _ _ c.partition_point.ensures.partitioned parted (λ a r q k. search rules) in
+    (λ k d low high. leb-true _ _ (point.0 k d low high), λ k d low high. leb-false _ _ (point.1 k d low high))
