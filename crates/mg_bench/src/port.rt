@@ -1,14 +1,17 @@
 //! A port that counts what goes through it.
 
 use mg_disk::{DiskError, Files};
+use mg_sealed::Blocks;
 use std::alloc::Global;
 
-/// A port that counts its reads and the bytes that are appended.
+/// A port that counts its reads, the bytes that they give and the bytes that are appended.
 #[derive(Drop)]
 pub struct CountingFiles<F> {
     files: F,
     /// How many reads there were.
     pub reads: u64,
+    /// How many bytes they gave.
+    pub read: u64,
     /// How many bytes were appended.
     pub written: u64,
 }
@@ -18,10 +21,13 @@ impl<F> CountingFiles<F> {
         CountingFiles {
             files,
             reads: 0,
+            read: 0,
             written: 0,
         }
     }
 }
+
+impl<F: Files> Blocks for CountingFiles<F> {}
 
 // Each call is one of the port below.
 impl<F: Files> Files for CountingFiles<F> {
@@ -36,6 +42,8 @@ impl<F: Files> Files for CountingFiles<F> {
     ghost identity = { F.identity };
 
     ghost faults = { λ port. F.faults port.files };
+
+    ghost bounded = { λ port. F.bounded port.files };
 
     fn fresh(&mut self, alloc: Global) -> Result<F::Draft, DiskError> {
         self.files.fresh(alloc)
@@ -67,7 +75,9 @@ impl<F: Files> Files for CountingFiles<F> {
         buf: &mut [u8],
     ) -> Result<usize, DiskError> {
         self.reads = self.reads.saturating_add(1);
-        self.files.read(alloc, file, at, buf)
+        let read = self.files.read(alloc, file, at, buf)?;
+        self.read = self.read.saturating_add(read as u64);
+        Ok(read)
     }
 
     fn share(&self, alloc: Global, file: &F::Sealed) -> Result<F::Sealed, DiskError> {

@@ -3,13 +3,13 @@
 use crate::port::CountingFiles;
 use anyhow::{Context, Result, bail};
 use mg_memdisk::{MemDraft, MemFiles, MemSealed};
-use mg_model::{FileId, Key};
-use mg_table::{Entry, Table, TableWriter, find, finish_table, push_entry, start_table};
+use mg_table::{Table, TableWriter};
+use mg_types::{Entry, FileId, Key, Kind};
 use std::alloc::Global;
 
 const ID: FileId = FileId {
     part: 0,
-    kind: 1,
+    kind: Kind::Table,
     number: 1,
 };
 
@@ -30,37 +30,37 @@ pub fn write_table(alloc: Global, count: u64, size: usize) -> Result<u64> {
     Ok(port.written)
 }
 
-/// Looks `count` times for a key of a table of `count` entries, at most 100,000, and answers how many blocks were read.
+/// Looks `count` times for a key of a table of `count` entries, at most 100,000, and answers how many bytes were read.
 pub fn find_in_table(alloc: Global, count: u64, size: usize) -> Result<u64> {
     let mut port = CountingFiles::new(MemFiles::new(Vec::new(alloc)));
     let entries = count.min(MOST_ENTRIES);
     let table = filled(alloc, &mut port, entries, size)?;
-    let before = port.reads;
+    let before = port.read;
     for n in 0..count {
         let number = n.wrapping_mul(7_919) % entries;
         let key = key_of(alloc, 2 * number, size)?;
-        if find(alloc, &mut port, &table, &key)?.is_none() {
+        if table.find(alloc, &mut port, &key)?.is_none() {
             bail!("a key is not found");
         }
     }
-    Ok(port.reads.saturating_sub(before))
+    Ok(port.read.saturating_sub(before))
 }
 
-/// Looks `count` times for a key between two of a table of `count` entries, at most 100,000, and answers how many blocks were
+/// Looks `count` times for a key between two of a table of `count` entries, at most 100,000, and answers how many bytes were
 /// read.
 pub fn find_absent_in_table(alloc: Global, count: u64, size: usize) -> Result<u64> {
     let mut port = CountingFiles::new(MemFiles::new(Vec::new(alloc)));
     let entries = count.min(MOST_ENTRIES);
     let table = filled(alloc, &mut port, entries, size)?;
-    let before = port.reads;
+    let before = port.read;
     for n in 0..count {
         let number = n.wrapping_mul(7_919) % entries;
         let key = key_of(alloc, 2 * number + 1, size)?;
-        if find(alloc, &mut port, &table, &key)?.is_some() {
+        if table.find(alloc, &mut port, &key)?.is_some() {
             bail!("an absent key is found");
         }
     }
-    Ok(port.reads.saturating_sub(before))
+    Ok(port.read.saturating_sub(before))
 }
 
 /// A table of so many entries.
@@ -68,7 +68,7 @@ fn filled(alloc: Global, port: &mut Port, entries: u64, size: usize) -> Result<T
     if entries >= 1 << 32 {
         bail!("too many entries");
     }
-    let mut writer = start_table(alloc, port, ID, 0, entries, entries)?;
+    let mut writer = TableWriter::new(alloc, port, ID, 0, entries, entries)?;
     for number in 0..entries {
         let entry = Entry {
             key: key_of(alloc, 2 * number, size)?,
@@ -81,7 +81,7 @@ fn filled(alloc: Global, port: &mut Port, entries: u64, size: usize) -> Result<T
     if writer.is_empty() {
         bail!("no entry");
     }
-    Ok(finish_table(alloc, port, writer)?)
+    Ok(writer.finish(alloc, port)?)
 }
 
 fn push(
@@ -90,11 +90,10 @@ fn push(
     writer: &mut TableWriter<MemDraft>,
     entry: &Entry,
 ) -> Result<()> {
-    let fits = entry.seq < 1 << 62 && entry.size >= 1 && entry.size <= 1_048_826;
-    if writer.is_full() || !writer.is_above(&entry.key) || !fits {
+    if writer.is_full() || !writer.is_above(&entry.key) || !entry.fits() {
         bail!("the entry may not follow");
     }
-    Ok(push_entry(alloc, port, writer, entry)?)
+    Ok(writer.push(alloc, port, entry)?)
 }
 
 /// The last digits of a number, as many as `size`, at most 250.
