@@ -1,6 +1,7 @@
 -- What a volume holds, what a crash may leave of it, and what the calls of a volume do to both.
-use Rattle.std.specs.Prelude.{◌≡◌, ◌≢◌, ◌≤◌, ◌<◌, ◌⊎◌, ◌^◌, ℕ, Bool, false, Option, None, Some, List, [], ◌++◌, length, All}
+use Rattle.std.specs.Prelude.{◌≡◌, ◌≢◌, ◌≤◌, ◌⊎◌, ℕ, Bool, false, Option, None, Some, List, [], ◌++◌, length}
 use Rattle.mg_disk.specs.Files.{IsFront}
+use Rattle.mg_types.specs.Bytes.{AreBytes}
 use Rattle.mg_types.specs.declared.names.Name.{Name}
 use Rattle.mg_types.specs.Names.{IsLogName}
 
@@ -10,7 +11,7 @@ Image = Name → Option (List ℕ)
 
 -- what the image's names stand for are bytes
 abbrev pub HoldsBytes : Image → Type 0
-HoldsBytes image = (name : Name) (bytes : List ℕ) → image name ≡ Some bytes → All (λ byte. byte < 2 ^ 8) bytes
+HoldsBytes image = (name : Name) (bytes : List ℕ) → image name ≡ Some bytes → AreBytes bytes
 
 -- all that is said of a volume
 pub record View : Type 1 where
@@ -43,7 +44,7 @@ pub record Grows (name : Name) (most : ℕ) (old new : Image) : Type 0 where
   pub before : old name ≡ Some front
   pub after : Sets name (Some (front ++ behind)) old new
   pub bound : length (front ++ behind) ≤ most
-  pub are_bytes : All (λ byte. byte < 2 ^ 8) behind
+  pub are_bytes : AreBytes behind
 
 -- Nothing changed, and a crash leaves nothing that it could not leave before.
 pub record Stays (old new : View) : Type 0 where

@@ -53,7 +53,7 @@ are_bytes zero n = All-nil (λ x. x < 2 ^ 8)
 are_bytes (suc width) n = All-cons (λ x. x < 2 ^ 8) (byte_at width n) (bytes_high_first width n) (byte_at-lt width n) (are_bytes width n)
 
 pub AreBytes-big_endian : (width n : ℕ) → AreBytes (big_endian width n)
-unfolding big_endian AreBytes
+unfolding big_endian
 AreBytes-big_endian width n = are_bytes width n
 
 -- the value from a number on: it moves up by the width of the bytes
@@ -69,7 +69,7 @@ value_cons x xs = fold_split xs (0 * 256 + x) ∙ omega arith
 
 -- bytes spell a number of their width
 pub big_endian_value-lt : (xs : List ℕ) → AreBytes xs → big_endian_value xs < 256 ^ length xs
-unfolding AreBytes big_endian_value
+unfolding big_endian_value
 big_endian_value-lt [] small = omega arith
 big_endian_value-lt (x ∷ xs) small =
     let wider : 256 ^ suc (length xs) ≡ 256 ^ length xs * 256 = pow-suc 256 (length xs) in
@@ -78,7 +78,6 @@ big_endian_value-lt (x ∷ xs) small =
 
 -- equal values, lengths and ranges: equal bytes
 pub same_from_value : (xs ys : List ℕ) → length xs ≡ length ys → AreBytes xs → AreBytes ys → big_endian_value xs ≡ big_endian_value ys → xs ≡ ys
-unfolding AreBytes
 same_from_value [] [] len small small' same = refl
 same_from_value [] (y ∷ ys) len small small' same = cc
 same_from_value (x ∷ xs) [] len small small' same = cc
@@ -101,25 +100,20 @@ big_endian-big_endian_value xs small =
 
 -- the first bytes are the big-endian form of what they spell
 pub front_back : (width : ℕ) (bytes : List ℕ) → width ≤ length bytes → AreBytes bytes → big_endian width (big_endian_value (take width bytes)) ≡ take width bytes
-unfolding AreBytes
 front_back width bytes enough small =
     ap (λ w. big_endian w (big_endian_value (take width bytes))) (sym (length-take-le width bytes enough))
     ∙ big_endian-big_endian_value (take width bytes) (All-take (λ x. x < 2 ^ 8) width bytes small)
 
 pub AreBytes-drop : (n : ℕ) (bytes : List ℕ) → AreBytes bytes → AreBytes (drop n bytes)
-unfolding AreBytes
 AreBytes-drop n bytes small = All-drop (λ x. x < 2 ^ 8) n bytes small
 
 pub AreBytes-take : (n : ℕ) (bytes : List ℕ) → AreBytes bytes → AreBytes (take n bytes)
-unfolding AreBytes
 AreBytes-take n bytes small = All-take (λ x. x < 2 ^ 8) n bytes small
 
 pub AreBytes-append : (xs ys : List ℕ) → AreBytes xs → AreBytes ys → AreBytes (xs ++ ys)
-unfolding AreBytes
 AreBytes-append xs ys small small' = All-append (λ x. x < 2 ^ 8) xs ys small small'
 
 pub AreBytes-from_reads : (xs : List ℕ) → ((i : ℕ) → get_or xs i 0 < 2 ^ 8) → AreBytes xs
-unfolding AreBytes
 AreBytes-from_reads xs small = All-from_get_or (λ x. x < 2 ^ 8) xs 0 (λ i _. small i)
 
 pub front_number_some : (width : ℕ) (bytes : List ℕ) → width ≤ length bytes → front_number width bytes ≡ Some (big_endian_value (take width bytes))
@@ -199,7 +193,6 @@ subst_lt xs width len low = rw (← len) low
 
 -- what was read as a number is that number's bytes, and then the rest
 pub front_number_spelled : (width : ℕ) (bytes : List ℕ) (n : ℕ) → AreBytes bytes → front_number width bytes ≡ Some n → (bytes ≡ big_endian width n ++ drop width bytes) × (n < 256 ^ width)
-unfolding AreBytes
 front_number_spelled width bytes n small found =
     let fits = front_number_fits width bytes n found in
     let len : length (take width bytes) ≡ width = length-take-le width bytes fits.0 in

@@ -1,11 +1,7 @@
 -- Numbers and byte lists as fields of a record: big-endian, and a list after the count of its bytes.
 use Rattle.std.specs.Prelude.{◌≡◌, ℕ, ◌+◌, ◌*◌, ◌<◌, ◌^◌, List, ◌++◌, length, take, drop, fold, nat_le, if◌then◌else◌, Option, Some, None, option_and_then}
-use Rattle.std.specs.List.{All}
 use Rattle.std.specs.Int.{bytes_high_first}
-
--- each number of the list is a byte
-unfoldable pub AreBytes : List ℕ → Type 0
-AreBytes xs = All (λ x. x < 2 ^ 8) xs
+pub use Rattle.mg_types.specs.Bytes.{AreBytes}
 
 -- the number n in `width` bytes, the highest byte first
 unfoldable pub big_endian : ℕ → ℕ → List ℕ

@@ -1,7 +1,7 @@
 -- Frames one after another, as sealed files and logs hold them, and what a crash may leave of a log.
 use Rattle.std.specs.Prelude.{◌≡◌, ℕ, ◌+◌, ◌<◌, ◌≤◌, ◌^◌, List, [], ◌∷◌, ◌++◌, length, take}
 use Rattle.std.specs.List.{All, enumerate_from}
-use Rattle.mg_frame.specs.BigEndian.{AreBytes}
+use Rattle.mg_types.specs.Bytes.{AreBytes}
 use Rattle.mg_frame.specs.Frame.{frame, IsEntry, StandsAt, BeginsWithNone, NoFrame}
 
 -- the frames of these numbers and bodies, one after another

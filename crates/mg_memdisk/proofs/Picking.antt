@@ -1,7 +1,8 @@
 -- What is picked is left by a crash, and all that a crash may leave is picked by some choice.
-use Rattle.std.proofs.Common.{◌≡◌, ◌⊎◌, ◌==◌, ◌≤◌, ◌<◌, ◌^◌, inl, inr, ℕ, zero, suc, Bool, true, false, List, [], ◌∷◌, ◌++◌, All, length, drop, refl, sym, ◌∙◌, ap, subst, cond, arith, length-append, append_assoc}
+use Rattle.std.proofs.Common.{◌≡◌, ◌⊎◌, ◌==◌, ◌≤◌, ◌<◌, ◌^◌, inl, inr, ℕ, zero, suc, Bool, true, false, List, [], ◌∷◌, ◌++◌, length, drop, refl, sym, ◌∙◌, ap, subst, cond, arith, length-append, append_assoc}
 use Rattle.std.proofs.lemmas.List.Elements.{All-append, All-cons, All-drop}
 use Rattle.std.specs.Prelude.{Option}
+use Rattle.mg_types.specs.Bytes.{AreBytes}
 use Rattle.mg_types.specs.declared.names.Name.{Name}
 use Rattle.mg_disk.specs.Files.{extended}
 use Rattle.mg_disk.specs.Images.{Image, Sets, bytes_of}
@@ -12,9 +13,6 @@ use Rattle.mg_memdisk.specs.Events.{same_name, kept, value_bytes, held, opens, m
 use Rattle.mg_memdisk.specs.SameNames.{same_is, same_self, other_name, differs}
 use Rattle.mg_memdisk.specs.Holding.{both}
 use Rattle.mg_memdisk.proofs.Leaving.{LeftAfter, HasItsLog, Behind, comes_from, goes_to, behind_step, has_its_log, none_behind}
-
-abbrev Small : List ℕ → Type 0
-Small bytes = All (λ byte. byte < 2 ^ 8) bytes
 
 put_at_sets : (name : Name) (value : Option (List ℕ)) (d : Image) → Sets name value d (put_at name value d)
 put_at_sets name value d = record {
@@ -43,26 +41,26 @@ length_tail (suc most) choice = by_first (first choice == 1) (length_tail most (
     by_first true le = omega (arith, le)
     by_first false le = omega arith
 
-none_small : Small []
+none_small : AreBytes []
 none_small k d lt = absurd (omega (arith, lt))
 
-first_small : (choice : List ℕ) → Small choice → first choice < 2 ^ 8
+first_small : (choice : List ℕ) → AreBytes choice → first choice < 2 ^ 8
 first_small [] small = omega arith
 first_small (b ∷ choice) small = small 0 0 (omega arith)
 
-tail_small : (most : ℕ) (choice : List ℕ) → Small choice → Small (tail_of most choice)
+tail_small : (most : ℕ) (choice : List ℕ) → AreBytes choice → AreBytes (tail_of most choice)
 tail_small zero choice small = none_small
 tail_small (suc most) choice small = by_first (first choice == 1) (tail_small most (drop 2 choice) (All-drop (λ byte. byte < 2 ^ 8) 2 choice small))
   where
-    by_first : (t : Bool) → Small (tail_of most (drop 2 choice)) → Small (cond t (first (drop 1 choice) ∷ tail_of most (drop 2 choice)) [])
+    by_first : (t : Bool) → AreBytes (tail_of most (drop 2 choice)) → AreBytes (cond t (first (drop 1 choice) ∷ tail_of most (drop 2 choice)) [])
     by_first true rest = All-cons (λ byte. byte < 2 ^ 8) _ _ (first_small (drop 1 choice) (All-drop (λ byte. byte < 2 ^ 8) 1 choice small)) rest
     by_first false rest = none_small
 
-after_small : (most : ℕ) (choice : List ℕ) → Small choice → Small (after_tail most choice)
+after_small : (most : ℕ) (choice : List ℕ) → AreBytes choice → AreBytes (after_tail most choice)
 after_small zero choice small = small
 after_small (suc most) choice small = by_first (first choice == 1) (after_small most (drop 2 choice) (All-drop (λ byte. byte < 2 ^ 8) 2 choice small))
   where
-    by_first : (t : Bool) → Small (after_tail most (drop 2 choice)) → Small (cond t (after_tail most (drop 2 choice)) (drop 1 choice))
+    by_first : (t : Bool) → AreBytes (after_tail most (drop 2 choice)) → AreBytes (cond t (after_tail most (drop 2 choice)) (drop 1 choice))
     by_first true rest = rest
     by_first false rest = All-drop (λ byte. byte < 2 ^ 8) 1 choice small
 
@@ -84,7 +82,7 @@ spell_after zero (b ∷ tail) rest le = absurd (omega (arith, le))
 spell_after (suc most) [] rest le = refl
 spell_after (suc most) (b ∷ tail) rest le = spell_after most tail rest (omega (arith, le))
 
-spell_small : (most : ℕ) (tail : List ℕ) → Small tail → Small (spell most tail)
+spell_small : (most : ℕ) (tail : List ℕ) → AreBytes tail → AreBytes (spell most tail)
 spell_small zero tail small = none_small
 spell_small (suc most) [] small = All-cons (λ byte. byte < 2 ^ 8) 0 [] (omega arith) none_small
 spell_small (suc most) (b ∷ tail) small =
@@ -96,7 +94,7 @@ may_left : (name : Name) (value left : Option (List ℕ)) (d : Image) (t : Bool)
 may_left name value left d true is = inr (put_at_sets name value d)
 may_left name value left d false is = inl (ap (λ (o : Option (List ℕ)). put_at name o d) is ∙ put_same name d)
 
-left_after : (contents : Image) (p : Picked) (e : Event) → HasItsLog contents p.image e → Small p.choice → LeftAfter contents e p.image (picks_at contents p e).image
+left_after : (contents : Image) (p : Picked) (e : Event) → HasItsLog contents p.image e → AreBytes p.choice → LeftAfter contents e p.image (picks_at contents p e).image
 left_after contents p (Put name value) has small = put_at_sets name (value_bytes value) p.image
 left_after contents p (MayPut name value shown) has small = may_left name (value_bytes value) (p.image name) p.image (first p.choice == 1) refl
 left_after contents p (Append name bytes) has small =
@@ -114,14 +112,14 @@ left_after contents p (Append name bytes) has small =
     }
 left_after contents p (Sync name) has small = put_at_sets name (contents name) p.image
 
-choice_small : (contents : Image) (p : Picked) (e : Event) → Small p.choice → Small (picks_at contents p e).choice
+choice_small : (contents : Image) (p : Picked) (e : Event) → AreBytes p.choice → AreBytes (picks_at contents p e).choice
 choice_small contents p (Put name value) small = small
 choice_small contents p (MayPut name value shown) small = All-drop (λ byte. byte < 2 ^ 8) 1 p.choice small
 choice_small contents p (Append name bytes) small = after_small (room (contents name) (p.image name) (kept bytes)) p.choice small
 choice_small contents p (Sync name) small = small
 
 picks_leave : (before : Image → Type 0) (contents : Image) (open_now : Name → Bool) (p : Picked) (es : List Event) → ((d : Image) → before d → Behind contents d open_now) → are_open open_now es ≡ true
-    → before p.image → Small p.choice → leaves before contents es (picks contents p es).image
+    → before p.image → AreBytes p.choice → leaves before contents es (picks contents p es).image
 picks_leave before contents open_now p [] behind all was small = was
 picks_leave before contents open_now p (e ∷ es) behind all was small =
     let now = both _ _ all in
@@ -133,7 +131,7 @@ picks_leave before contents open_now p (e ∷ es) behind all was small =
     step d (b, was, after) = behind_step contents b d open_now (behind b was) e after
 
 -- a crash may leave what is picked
-pub picked_is_left : (found : Image) (es : List Event) (choice : List ℕ) → are_open (λ name. false) es ≡ true → Small choice → leaves (is_image found) found es (picked found es choice)
+pub picked_is_left : (found : Image) (es : List Event) (choice : List ℕ) → are_open (λ name. false) es ≡ true → AreBytes choice → leaves (is_image found) found es (picked found es choice)
 picked_is_left found es choice all small =
     picks_leave (is_image found) found (λ name. false) (record { image = found; choice = choice }) es (λ d is. none_behind found d) all refl small
 
@@ -145,7 +143,7 @@ on_way image choice = record { image = image; choice = choice }
 -- a choice by which one event more leaves this image
 record Chooses (contents : Image) (e : Event) (d c : Image) : Type 0 where
   pub choice : List ℕ
-  pub small : Small choice
+  pub small : AreBytes choice
   pub run : (rest : List ℕ) → picks_at contents (on_way d (choice ++ rest)) e ≡ on_way c rest
 
 pair : (a b : Image) (x y : List ℕ) → a ≡ b → x ≡ y → on_way a x ≡ on_way b y
@@ -181,7 +179,7 @@ record ChoosesAll (before : Image → Type 0) (contents : Image) (es : List Even
   pub start : Image
   pub was : before start
   pub choice : List ℕ
-  pub small : Small choice
+  pub small : AreBytes choice
   pub run : (rest : List ℕ) → picks contents (on_way start (choice ++ rest)) es ≡ on_way c rest
 
 chooses_all : (before : Image → Type 0) (contents : Image) (es : List Event) (c : Image) → leaves before contents es c → ChoosesAll before contents es c
@@ -202,7 +200,7 @@ chooses_all before contents (e ∷ es) c left =
     }
 
 -- each image that a crash may leave is picked by some choice
-pub each_has_choice : (found : Image) (es : List Event) (c : Image) → leaves (is_image found) found es c → (choice : List ℕ) × Small choice × (picked found es choice ≡ c)
+pub each_has_choice : (found : Image) (es : List Event) (c : Image) → leaves (is_image found) found es c → (choice : List ℕ) × AreBytes choice × (picked found es choice ≡ c)
 each_has_choice found es c left =
     let all = chooses_all (is_image found) found es c left in
     let small = All-append (λ byte. byte < 2 ^ 8) all.choice [] all.small none_small in

@@ -1,5 +1,5 @@
 -- What holds of every view of a volume in memory.
-use Rattle.std.proofs.Common.{◌≡◌, ◌≤◌, ◌<◌, ◌^◌, ◌⊎◌, ◌&&◌, inl, inr, ℕ, Bool, true, false, not, List, [], ◌∷◌, ◌++◌, All, length, take, subst, sym, ◌∙◌, ap, refl, cond, arith}
+use Rattle.std.proofs.Common.{◌≡◌, ◌≤◌, ◌<◌, ◌^◌, ◌⊎◌, ◌&&◌, inl, inr, ℕ, Bool, true, false, not, List, [], ◌∷◌, ◌++◌, length, take, subst, sym, ◌∙◌, ap, refl, cond, arith}
 use Rattle.std.proofs.lemmas.List.{take_all}
 use Rattle.std.proofs.lemmas.List.Elements.{All-append}
 use Rattle.std.specs.Prelude.{Option, Some, None}
@@ -7,6 +7,7 @@ use Rattle.std.specs.Arc.{arc_value}
 use Rattle.std.specs.List.{fold}
 use Rattle.std.specs.declared.sync.Arc.{Arc}
 use Rattle.std.specs.declared.alloc.Global.{Global}
+use Rattle.mg_types.specs.Bytes.{AreBytes}
 use Rattle.mg_types.specs.declared.names.Name.{Name}
 use Rattle.mg_disk.specs.Files.{extended}
 use Rattle.mg_disk.specs.Images.{Image, HoldsBytes, Sets, Grows, bytes_of}
@@ -33,24 +34,24 @@ view_only_now volume c left =
     subst (λ (l : List Event). leaves (is_image (mem_found volume)) (mem_found volume) l c) (take_all left.0 es left.1) left.3
 
 -- what a name stands for are bytes
-abbrev pub AreBytes : Option (List ℕ) → Type 0
-AreBytes value = (bytes : List ℕ) → value ≡ Some bytes → All (λ byte. byte < 2 ^ 8) bytes
+abbrev pub HasBytes : Option (List ℕ) → Type 0
+HasBytes value = (bytes : List ℕ) → value ≡ Some bytes → AreBytes bytes
 
-none_bytes : AreBytes None
+none_bytes : HasBytes None
 none_bytes bytes is = absurd (cc)
 
-some_bytes : (list : List ℕ) → All (λ byte. byte < 2 ^ 8) list → AreBytes (Some list)
-some_bytes list all bytes is = let same : list ≡ bytes = cc in subst (λ (l : List ℕ). All (λ byte. byte < 2 ^ 8) l) same all
+some_bytes : (list : List ℕ) → AreBytes list → HasBytes (Some list)
+some_bytes list all bytes is = let same : list ≡ bytes = cc in subst AreBytes same all
 
-value_are_bytes : (value : Option (Arc Bytes Global)) → AreBytes (value_bytes value)
+value_are_bytes : (value : Option (Arc Bytes Global)) → HasBytes (value_bytes value)
 value_are_bytes None = none_bytes
 value_are_bytes (Some bytes) = some_bytes _ (arc_value bytes).are_bytes
 
-extended_bytes : (o : Option (List ℕ)) (more : List ℕ) → AreBytes o → All (λ byte. byte < 2 ^ 8) more → AreBytes (extended o more)
+extended_bytes : (o : Option (List ℕ)) (more : List ℕ) → HasBytes o → AreBytes more → HasBytes (extended o more)
 extended_bytes None more old new = none_bytes
 extended_bytes (Some list) more old new = some_bytes _ (All-append (λ byte. byte < 2 ^ 8) list more (old list refl) new)
 
-either_bytes : (t : Bool) (a b : Option (List ℕ)) → AreBytes a → AreBytes b → AreBytes (cond t a b)
+either_bytes : (t : Bool) (a b : Option (List ℕ)) → HasBytes a → HasBytes b → HasBytes (cond t a b)
 either_bytes true a b one other = one
 either_bytes false a b one other = other
 
@@ -64,12 +65,12 @@ all_held_bytes : (image : Image) (es : List Event) → HoldsBytes image → Hold
 all_held_bytes image [] old = old
 all_held_bytes image (e ∷ es) old = all_held_bytes (held image e) es (held_bytes image e old)
 
-sets_bytes : (name : Name) (value : Option (List ℕ)) (d c : Image) → Sets name value d c → AreBytes value → HoldsBytes d → HoldsBytes c
+sets_bytes : (name : Name) (value : Option (List ℕ)) (d c : Image) → Sets name value d c → HasBytes value → HoldsBytes d → HoldsBytes c
 sets_bytes name value d c set at old other = by_case (same_name other name) refl
   where
-    by_case : (t : Bool) → same_name other name ≡ t → AreBytes (c other)
-    by_case true same = subst AreBytes (sym set.at ∙ ap c (sym (same_is other name same))) at
-    by_case false same = subst AreBytes (sym (set.elsewhere other (differs other name same))) (old other)
+    by_case : (t : Bool) → same_name other name ≡ t → HasBytes (c other)
+    by_case true same = subst HasBytes (sym set.at ∙ ap c (sym (same_is other name same))) at
+    by_case false same = subst HasBytes (sym (set.elsewhere other (differs other name same))) (old other)
 
 after_bytes : (before : Image → Type 0) (contents : Image) (e : Event) → ((d : Image) → before d → HoldsBytes d) → HoldsBytes contents → (c : Image) → may_after before contents e c → HoldsBytes c
 after_bytes before contents (Put name value) old now c (d, was, set) = sets_bytes name (value_bytes value) d c set (value_are_bytes value) (old d was)

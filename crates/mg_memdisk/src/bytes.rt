@@ -1,12 +1,13 @@
 //! Bytes that are kept.
 
-ghost use Rattle.std.specs.Prelude.{◌≡◌, ◌<◌, ◌^◌, All};
+ghost use Rattle.std.specs.Prelude.{◌≡◌};
+ghost use Rattle.mg_types.specs.Bytes.{AreBytes};
 
 /// Bytes that don't change any more.
 #[derive(Drop)]
 pub struct Bytes {
     pub items: Vec<u8>,
-    ghost are_bytes: { All (λ byte. byte < 2 ^ 8) items.items },
+    ghost are_bytes: { AreBytes items.items },
 }
 
 impl Bytes {

@@ -40,10 +40,11 @@ pub struct MemVolume {
 }
 
 impl MemVolume {
-    ghost use Rattle.std.specs.Prelude.{◌≡◌, ◌≢◌, ◌<◌, ◌++◌, ◌∷◌, ◌⊎◌, ◌/◌, ◌^◌, ℕ, All, List, take, [], ◌&&◌, ◌↔◌, true, false, None, not, is_some, IfOk, IfSome, IsSome, OnOk, OnErr, IsErrOf};
+    ghost use Rattle.std.specs.Prelude.{◌≡◌, ◌≢◌, ◌++◌, ◌∷◌, ◌⊎◌, ◌/◌, ℕ, List, take, [], ◌&&◌, ◌↔◌, true, false, None, not, is_some, IfOk, IfSome, IsSome, OnOk, OnErr, IsErrOf};
     ghost use Rattle.std.specs.Option.{option_copied};
     ghost use Rattle.std.specs.List.{Contains};
     ghost use Rattle.std.specs.List.Sorted.{IsStrictlySortedBy};
+    ghost use Rattle.mg_types.specs.Bytes.{AreBytes};
     ghost use Rattle.mg_types.specs.declared.names.Name.{Name};
     ghost use Rattle.mg_disk.specs.Images.{Image, NameSet, NameInDoubt, Appended, AppendFailed, Stays};
     ghost use Rattle.mg_faults.specs.Calls.{no_calls};
@@ -98,7 +99,7 @@ impl MemVolume {
     pub fn crash(&self, alloc: Global, choice: &[u8]) -> Result<MemVolume, DiskError>
         ensures image { IfOk result (λ left. (mem_view left).contents ≡ picked (mem_found self.now) (mem_recent self.now) choice.now) }
         ensures left { (mem_view self.now).may_leave (picked (mem_found self.now) (mem_recent self.now) choice.now) }
-        ensures each { (image : Image) → (mem_view self.now).may_leave image → (choice : List ℕ) × All (λ byte. byte < 2 ^ 8) choice × (picked (mem_found self.now) (mem_recent self.now) choice ≡ image) }
+        ensures each { (image : Image) → (mem_view self.now).may_leave image → (choice : List ℕ) × AreBytes choice × (picked (mem_found self.now) (mem_recent self.now) choice ≡ image) }
         ensures settled { IfOk result (λ left. IsSettled left) }
         ensures calls { IfOk result (λ left. mem_calls left ≡ no_calls []) }
         ensures shows { IfOk result (λ left. mem_shows left ≡ false) }

@@ -1,5 +1,9 @@
--- Keys and documents as lists of bytes.
-use Rattle.std.specs.Prelude.{ℕ, ◌≤◌, List, length}
+-- Bytes, and keys and documents as lists of them.
+use Rattle.std.specs.Prelude.{ℕ, ◌<◌, ◌≤◌, ◌^◌, List, length, All}
+
+-- each number of the list is a byte
+abbrev pub AreBytes : List ℕ → Type 0
+AreBytes bytes = All (λ byte. byte < 2 ^ 8) bytes
 
 -- a key has 1 to 250 bytes
 abbrev pub IsKey : List ℕ → Type 0
