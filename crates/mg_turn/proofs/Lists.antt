@@ -7,7 +7,7 @@ use mathlib.Core.Logic.{dite}
 use native.Mathlib.Decide.{ℕ_discrete}
 use borrow.Author.Tests.{ltb-true, ltb-false, eqb-true, eq-eqb}
 use lib.ListN.{get_elem?}
-use Rattle.mg_turn.specs.History.{IsPrefix, calls_by, longer, shorter, total, times_among, AreCalls, NoOthers, calls_in}
+use Rattle.mg_turn.specs.History.{IsPrefix, calls_by, longer, shorter, total, times_among, AreApart, AreCalls, NoOthers, calls_in}
 
 module _ {A : Type 0} where
   pub prefix_self : (xs : List A) → IsPrefix xs xs
@@ -148,7 +148,7 @@ module _ {E : Type 0} where
   fewer x xs false h = h
 
   -- where each caller stands once, and nobody else made a call, the calls are as many as the entries
-  all_by_caller : (os : List (ℕ × List E)) (log : List (ℕ × E)) → ((c : ℕ) → times_among c os ≤ 1) → NoOthers log os → total (λ o. length (calls_by o.0 log)) os ≡ length log
+  all_by_caller : (os : List (ℕ × List E)) (log : List (ℕ × E)) → AreApart os → NoOthers log os → total (λ o. length (calls_by o.0 log)) os ≡ length log
   all_by_caller os [] most none = no_calls os
   all_by_caller os (x ∷ xs) most none =
       let h = all_by_caller os xs most (λ c z. fewer x (filter (λ (y : ℕ × E). eqb y.0 c) xs) (eqb x.0 c) (none c z)) in
@@ -162,7 +162,7 @@ module _ {E : Type 0} where
   same_lengths log [] h = refl
   same_lengths log (o ∷ os) h = let a = ap length h.0 in let b = same_lengths log os h.1 in omega arith
 
-  pub all_counted : (log : List (ℕ × E)) (os : List (ℕ × List E)) → AreCalls log os → ((c : ℕ) → times_among c os ≤ 1) → NoOthers log os → length log ≡ calls_in os
+  pub all_counted : (log : List (ℕ × E)) (os : List (ℕ × List E)) → AreCalls log os → AreApart os → NoOthers log os → length log ≡ calls_in os
   all_counted log os calls most none = sym (same_lengths log os calls ∙ all_by_caller os log most none)
 
   -- a caller whose calls are as many as the entries made all of them

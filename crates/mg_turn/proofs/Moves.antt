@@ -16,10 +16,10 @@ use Rattle.mg_turn.specs.declared.rule.View.{View}
 use Rattle.mg_turn.specs.declared.rule.Slot.{Slot}
 use Rattle.mg_turn.specs.declared.rule.Slot.TheVariants.{Empty, Full, Note}
 use Rattle.mg_turn.specs.declared.rule.Opening.{Opening}
-use Rattle.mg_turn.specs.History.{IsPrefix, calls_by, total, times_among, AreCalls, NoOthers, calls_in}
+use Rattle.mg_turn.specs.History.{IsPrefix, calls_by, total, times_among, AreApart, AreCalls, NoOthers, calls_in}
 use Rattle.mg_turn.specs.Rule.{NotAbove, whole, if_live, own, times_in, EachLive, Fits, IsQuiet, opening_view, nobody, splitter, new_caller, keepsake, joined, entered, taken, IsKept, IsFree, SlotOf, IsHeld, Holds, took, put_back, took_back, learned, counted, gave, HasClosed}
 use Rattle.mg_turn.proofs.Lists.{prefix_self, prefix_shorter, set_at, total_two, total_only, all_counted}
-use Rattle.mg_turn.proofs.Views.{live_count, none_if, not_above_self, not_above_trans, greater_not_above, each_set, each_snoc, kept_set, kept_entered, kept_split, kept_kept, kept_joined}
+use Rattle.mg_turn.proofs.Views.{live_count, none_if, not_above_self, not_above_trans, greater_not_above, own_apart, each_set, each_snoc, kept_set, kept_entered, kept_split, kept_kept, kept_joined}
 
 module _ {T E : Type 0} (stands : ℕ → List (ℕ × E) → T → Type 0) (counts : T → Counts) (o : Opening T) where
   abbrev St : Type 0
@@ -147,7 +147,7 @@ module _ {T E : Type 0} (stands : ℕ → List (ℕ × E) → T → Type 0) (cou
             ),
           ),
         ),
-        ((λ n. absurd (n refl)), (λ _. (log, (st, refl, subst (λ (n : ℕ). stands n log st) (sym fit.first_is) good, fit.seen, (quiet id v here live).1, fit.calls)))),
+        ((λ n. absurd (n refl)), (λ _. (log, (st, refl, subst (λ (n : ℕ). stands n log st) (sym fit.first_is) good, fit.seen, (quiet id v here live).1, fit.calls, own_apart o.first log vs id v k here live)))),
       )
 
   -- where the turn is taken already, only the word may change
@@ -254,6 +254,7 @@ module _ {T E : Type 0} (stands : ℕ → List (ℕ × E) → T → Type 0) (cou
           refl,
           (λ held. found_length log s h.1.1 ∙ ap length (sym (holder log s id v here live held h.1.1).seen)),
           (λ le. prefix_shorter v.told v.seen log fit.told fit.seen le),
+          own_apart o.first log s.views id v h.1.0 here live,
         ),
       )
 
@@ -431,7 +432,7 @@ module _ {T E : Type 0} (stands : ℕ → List (ℕ × E) → T → Type 0) (cou
 
   -- whoever has every part is the only one, and has seen all
   pub closes : (id : ℕ) (v : View E) (s : St) → v.parts ≡ whole → v.hold ≡ Free → Seen Rule id v s
-      → (st : T) × (get_elem? s.homes 0 ≡ some (some (Full st))) × stands v.first v.seen st × NotAbove v.counts (counts st) × AreCalls v.seen (own v) × NoOthers v.seen (own v) × (length v.seen ≡ calls_in (own v))
+      → (st : T) × (get_elem? s.homes 0 ≡ some (some (Full st))) × stands v.first v.seen st × NotAbove v.counts (counts st) × AreCalls v.seen (own v) × AreApart (own v) × NoOthers v.seen (own v) × (length v.seen ≡ calls_in (own v))
   closes id v s all free seen =
       let log : List (ℕ × E) = seen.0.0 in
       let k : IsKept o.first log s.views = seen.0.1.0 in
@@ -444,8 +445,8 @@ module _ {T E : Type 0} (stands : ℕ → List (ℕ × E) → T → Type 0) (cou
       total_only (times_in c) s.views id v here (λ j u n at_j. ap (λ (p : ℕ). if_live p (times_among c (own u))) (alone j u n at_j)) ∙ live_count v.parts (times_among c (own v)) live in
       let calls : AreCalls v.seen (own v) = subst (λ (xs : List (ℕ × E)). AreCalls xs (own v)) (sym whole_seen) fit.calls in
       let others : NoOthers v.seen (own v) = λ c z. ap (calls_by c) whole_seen ∙ k.known c (sums c ∙ z) in
-      let most : (c : ℕ) → times_among c (own v) ≤ 1 = λ c. (let h = sums c in let p = k.apart c in omega arith) in
-      let counted_all : length v.seen ≡ calls_in (own v) = all_counted v.seen (own v) calls most others in
+      let apart : AreApart (own v) = own_apart o.first log s.views id v k here live in
+      let counted_all : length v.seen ≡ calls_in (own v) = all_counted v.seen (own v) calls apart others in
       ⊎_elim
       (λ (r : IsFree stands counts o.first log s). (
         r.state,
@@ -453,6 +454,7 @@ module _ {T E : Type 0} (stands : ℕ → List (ℕ × E) → T → Type 0) (cou
         subst (λ (x : ℕ × List (ℕ × E)). stands x.0 x.1 r.state) (λ i. (sym fit.first_is i, sym whole_seen i)) r.stands_for,
         (r.quiet id v here live).1,
         calls,
+        apart,
         others,
         counted_all,
       ))
@@ -506,5 +508,5 @@ module _ {T E : Type 0} (stands : ℕ → List (ℕ × E) → T → Type 0) (cou
   shows id v ws xs r all free f first = let c = closes id v f.0 all free f.1 in (
     c.0,
     some-injective r (Full c.0) (sym first ∙ f.4 0 (Full c.0) c.1),
-    record { stands_for = c.2; counts_below = c.3; calls = c.4; others = c.5; counted = c.6 },
+    record { stands_for = c.2; counts_below = c.3; calls = c.4; apart = c.5; others = c.6; counted = c.7 },
   )

@@ -8,7 +8,7 @@ use lib.ListN.{get_elem?}
 use Rattle.atomic_table.proofs.Lists.{at_set, set_else, at_longer, at_snoc}
 use Rattle.mg_turn.specs.declared.state.Counts.{Counts}
 use Rattle.mg_turn.specs.declared.rule.View.{View}
-use Rattle.mg_turn.specs.History.{IsPrefix, calls_by, total, times_among, AreCalls}
+use Rattle.mg_turn.specs.History.{IsPrefix, calls_by, total, times_among, AreApart, AreCalls}
 use Rattle.mg_turn.specs.Rule.{NotAbove, greater, if_live, at_most_one, own, times_in, givers_in, EachLive, Fits, nobody, splitter, new_caller, keepsake, joined, entered, IsKept}
 use Rattle.mg_turn.proofs.Lists.{prefix_self, prefix_more, of_either, longer_whole, set_at, total-append, total_set, total_at, total_two, calls_more}
 
@@ -75,6 +75,10 @@ module _ {E : Type 0} where
 
   abbrev pub Complete : List (ℕ × E) → List (View E) → Type 0
   Complete log views = (j : ℕ) × ((v : View E) × (get_elem? views j ≡ some v) × (0 < v.parts) × (v.seen ≡ log))
+
+  -- the callers of a view with a part differ, since no caller is in two views or twice in one
+  pub own_apart : (first : ℕ) (log : List (ℕ × E)) (views : List (View E)) (id : ℕ) (v : View E) → IsKept first log views → get_elem? views id ≡ some v → 0 < v.parts → AreApart (own v)
+  own_apart first log views id v k at live c = let part = total_at (times_in c) views id v at in let all = k.apart c in let same = live_count v.parts (times_among c (own v)) live in omega arith
 
   -- a view changes what it has seen and made, and no more
   pub kept_set : (first : ℕ) (log new : List (ℕ × E)) (views : List (View E)) (id : ℕ) (v w : View E) → IsKept first log views → get_elem? views id ≡ some v → 0 < v.parts → w.parts ≡ v.parts → w.next ≡ v.next

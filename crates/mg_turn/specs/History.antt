@@ -1,5 +1,5 @@
 -- A history: the entries of all callers in one order, each with its caller.
-use Rattle.std.specs.Prelude.{◌≡◌, ℕ, ◌+◌, List, [], ◌∷◌, ◌++◌, map, length, ◌==◌, if◌then◌else◌, nat_lt}
+use Rattle.std.specs.Prelude.{◌≡◌, ℕ, ◌+◌, ◌≤◌, List, [], ◌∷◌, ◌++◌, map, length, ◌==◌, if◌then◌else◌, nat_lt}
 use Rattle.std.specs.List.{filter}
 
 -- the list begins with these, and goes on by some rest
@@ -26,6 +26,10 @@ total f (x ∷ xs) = f x + total f xs
 -- how often the caller stands among these, each a caller with its calls
 abbrev pub times_among : {E : Type 0} → ℕ → List (ℕ × List E) → ℕ
 times_among caller own = total (λ o. if o.0 == caller then 1 else 0) own
+
+-- these callers differ: each stands there once at most
+abbrev pub AreApart : {E : Type 0} → List (ℕ × List E) → Type 0
+AreApart own = (caller : ℕ) → times_among caller own ≤ 1
 
 -- each of these callers made just these calls
 abbrev pub AreCalls : {E : Type 0} → List (ℕ × E) → List (ℕ × List E) → Type 0

@@ -13,7 +13,7 @@ use Rattle.mg_turn.specs.declared.rule.View.{View}
 use Rattle.mg_turn.specs.declared.rule.Slot.{Slot}
 use Rattle.mg_turn.specs.declared.rule.Slot.TheVariants.{Empty, Full, Note}
 use Rattle.mg_turn.specs.declared.rule.Opening.{Opening}
-use Rattle.mg_turn.specs.History.{IsPrefix, calls_by, longer, shorter, total, times_among, AreCalls, NoOthers, calls_in}
+use Rattle.mg_turn.specs.History.{IsPrefix, calls_by, longer, shorter, total, times_among, AreApart, AreCalls, NoOthers, calls_in}
 
 -- both numbers of a value
 abbrev pub counts_of : {T : Type 0} → (T → ℕ) → (T → ℕ) → T → Counts
@@ -129,9 +129,9 @@ module _ {T E : Type 0} where
       × (IsFree stands counts o.first history s ⊎ ((id : ℕ) × ((v : View E) × IsHeld history s id v))))
 
   -- the turn was free, and is taken with its slot: the state there stands for all that happened, which begins with what was seen before, and in
-  -- which each of the view's own callers made just the calls that the view has
+  -- which each of the view's own callers made just the calls that the view has. These callers differ
   abbrev pub HasTaken : (ℕ → List (ℕ × E) → T → Type 0) → (T → Counts) → Me (Slot T E) (View E) → Me (Slot T E) (View E) → Type 0
-  HasTaken stands counts m n = (history : List (ℕ × E)) × ((state : T) × (n ≡ (taken m.0 history (counts state), (0, Full state) ∷ [])) × stands m.0.first history state × IsPrefix m.0.seen history × NotAbove m.0.counts (counts state) × AreCalls history (own m.0))
+  HasTaken stands counts m n = (history : List (ℕ × E)) × ((state : T) × (n ≡ (taken m.0 history (counts state), (0, Full state) ∷ [])) × stands m.0.first history state × IsPrefix m.0.seen history × NotAbove m.0.counts (counts state) × AreCalls history (own m.0) × AreApart (own m.0))
 
   -- where the turn was taken already, nothing changes
   abbrev pub took : (ℕ → List (ℕ × E) → T → Type 0) → (T → Counts) → Step (Slot T E) → Me (Slot T E) (View E) → ℕ → Me (Slot T E) (View E) → Type 0
@@ -145,9 +145,10 @@ module _ {T E : Type 0} where
   abbrev pub took_back : Step (Slot T E) → Me (Slot T E) (View E) → ℕ → Me (Slot T E) (View E) → Type 0
   took_back s m found n = n ≡ (record m.0 { hold = Out }, (0, Empty) ∷ [])
 
-  -- nothing changes; a holder learns how long the history is, and anyone that the shorter of two histories begins the longer
+  -- nothing changes; a holder learns how long the history is, and anyone that the shorter of two histories begins the longer, and that its own
+  -- callers differ
   abbrev pub learned : Step (Slot T E) → Me (Slot T E) (View E) → ℕ → Me (Slot T E) (View E) → Type 0
-  learned s m found n = (n ≡ m) × (m.0.hold ≢ Free → found ≡ length m.0.seen) × (length m.0.told ≤ length m.0.seen → IsPrefix m.0.told m.0.seen)
+  learned s m found n = (n ≡ m) × (m.0.hold ≢ Free → found ≡ length m.0.seen) × (length m.0.told ≤ length m.0.seen → IsPrefix m.0.told m.0.seen) × AreApart (own m.0)
 
   -- the entry of the note is entered
   abbrev pub counted : Step (Slot T E) → Me (Slot T E) (View E) → ℕ → Me (Slot T E) (View E) → Type 0
@@ -162,5 +163,6 @@ module _ {T E : Type 0} where
     pub stands_for : stands v.first v.seen state
     pub counts_below : NotAbove v.counts (counts state)
     pub calls : AreCalls v.seen (own v)
+    pub apart : AreApart (own v)
     pub others : NoOthers v.seen (own v)
     pub counted : length v.seen ≡ calls_in (own v)

@@ -1,7 +1,7 @@
 //! The steps on a turn's table, by seats.
 ghost use Rattle.std.specs.Prelude.{◌≡◌, ◌≢◌, ◌+◌, ◌≤◌, ◌<◌, ◌^◌, [], ◌∷◌, length, MatchBool};
-ghost use Rattle.mg_turn.specs.History.{IsPrefix};
-ghost use Rattle.mg_turn.specs.Rule.{counts_of, HasTaken, NotAbove, entered, splitter, new_caller, keepsake, joined, whole, HasClosed};
+ghost use Rattle.mg_turn.specs.History.{AreApart, IsPrefix};
+ghost use Rattle.mg_turn.specs.Rule.{counts_of, HasTaken, NotAbove, entered, own, splitter, new_caller, keepsake, joined, whole, HasClosed};
 ghost use Rattle.mg_turn.specs.Seats.{IsAt, IsSame};
 ghost use Rattle.mg_turn.specs.declared.rule.Hold.TheVariants.{Free, Out, Home};
 ghost use Rattle.mg_turn.specs.declared.rule.Slot.TheVariants.{Empty, Full};
@@ -92,6 +92,7 @@ pub(crate) fn learn<T: Stands>(board: &Board<T>, seat: &mut Place<T>) -> u64
     ensures me { seat.new.me ≡ seat.old.me }
     ensures count { seat.old.me.0.hold ≢ Free → result ≡ length seat.old.me.0.seen }
     ensures told { length seat.old.me.0.told ≤ length seat.old.me.0.seen → IsPrefix seat.old.me.0.told seat.old.me.0.seen }
+    ensures apart { AreApart (own seat.old.me.0) }
 {
     board.load::<Learn>(seat, COUNT)
 }

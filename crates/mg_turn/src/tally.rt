@@ -1,6 +1,6 @@
 //! A state that counts the entries: the smallest that stands for a history. Two threads can count with it.
 ghost use Rattle.std.specs.Prelude.{◌≡◌, ◌⊎◌, ◌+◌, ◌*◌, ◌-◌, ◌^◌, ◌<◌, ◌≤◌, ◌∷◌, ◌++◌, [], length, IfSome, IfNone};
-ghost use Rattle.mg_turn.specs.History.{IsPrefix, AreCalls, NoOthers, calls_by, calls_in};
+ghost use Rattle.mg_turn.specs.History.{IsPrefix, AreApart, AreCalls, NoOthers, calls_by, calls_in};
 ghost use Rattle.mg_turn.specs.Passes.{IsWaiting, HasEntered, AfterCalls, IsDoneOrFull, own_calls, first_pass, pass_after, met_with};
 
 use crate::passes::Pass;
@@ -58,6 +58,7 @@ impl Turn<Tally> {
         ensures pass { result.1 ≡ record (met_with one two) { parts = 0 } }
         ensures count { result.0.entries ≡ length result.1.seen }
         ensures calls { AreCalls result.1.seen (own_calls result.1) }
+        ensures apart { AreApart (own_calls result.1) }
         ensures others { NoOthers result.1.seen (own_calls result.1) }
         ensures counted { length result.1.seen ≡ calls_in (own_calls result.1) }
     {

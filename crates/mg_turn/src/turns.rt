@@ -1,7 +1,7 @@
 //! The turn, and the calls on it.
 ghost use Rattle.std.specs.Prelude.{◌≡◌, ◌+◌, ◌-◌, ◌≤◌, ◌<◌, ◌^◌, [], ◌∷◌, ◌++◌, true, false, length, IfOk, IfErr};
 ghost use Rattle.mg_turn.specs.declared.rule.Slot.TheVariants.{Full};
-ghost use Rattle.mg_turn.specs.History.{IsPrefix, AreCalls, NoOthers, calls_in};
+ghost use Rattle.mg_turn.specs.History.{IsPrefix, AreApart, AreCalls, NoOthers, calls_in};
 ghost use Rattle.mg_turn.specs.Passes.{IsWaiting, IsHolding, own_calls, first_pass, pass_after, met_with};
 
 use crate::passes::Pass;
@@ -92,7 +92,7 @@ impl<T: Stands> Turn<T> {
     }
 
     /// Waits until the turn is free, and takes it with its state. Of the entries that it shows, those of this caller, and of
-    /// each caller that the pass has met, are exactly the calls that the pass has of it.
+    /// each caller that the pass has met, are exactly the calls that the pass has of it. These callers differ.
     pub fn take<R: Wait>(&self, rt: &R, pass: &mut Pass<T::Entry>) -> Held<T>
         requires { IsWaiting self.now pass.old }
         ensures pass { pass.new ≡ record pass.old { seen = pass.new.seen; faults = T.faults result.state; synced = T.synced result.state; holds = true } }
@@ -101,6 +101,7 @@ impl<T: Stands> Turn<T> {
         ensures faults { pass.old.faults ≤ T.faults result.state }
         ensures synced { pass.old.synced ≤ T.synced result.state }
         ensures calls { AreCalls pass.new.seen (own_calls pass.new) }
+        ensures apart { AreApart (own_calls pass.new) }
     {
         let mut seat = mem::replace(&mut pass.badge, Badge::blank()).into_seat();
         take_slot::<T, R>(&self.table.shared, rt, &mut seat);
@@ -179,6 +180,7 @@ impl<T: Stands> Turn<T> {
         ensures pass { pass.new ≡ met_with pass.old other }
         ensures seen { IsPrefix pass.old.seen pass.new.seen }
         ensures other { IsPrefix other.seen pass.new.seen }
+        ensures apart { AreApart (own_calls pass.new) }
     {
         let Pass { badge } = other;
         let mut seat = mem::replace(&mut pass.badge, Badge::blank()).into_seat();
@@ -196,6 +198,7 @@ impl<T: Stands> Turn<T> {
         ensures faults { pass.faults ≤ T.faults result.0 }
         ensures synced { pass.synced ≤ T.synced result.0 }
         ensures calls { AreCalls pass.seen (own_calls pass) }
+        ensures apart { AreApart (own_calls pass) }
         ensures others { NoOthers pass.seen (own_calls pass) }
         ensures counted { length pass.seen ≡ calls_in (own_calls pass) }
     {
