@@ -1,5 +1,5 @@
 -- A partition's state, and the one step that each call is.
-use Rattle.std.specs.Prelude.{◌≡◌, ℕ, ◌+◌, ◌<◌, ◌≤◌, ◌^◌, min, List, [], ◌∷◌, ◌++◌, length, take, Bool, not, ◌||◌, ◌==◌, ⊤, ◌-◌, nat_lt, nat_le, Option, None, Some, if◌then◌else◌}
+use Rattle.std.specs.Prelude.{◌≡◌, ℕ, ◌+◌, ◌<◌, ◌≤◌, ◌^◌, min, List, [], ◌∷◌, ◌++◌, length, take, Bool, true, false, not, ◌||◌, ◌==◌, ⊤, ◌-◌, nat_lt, nat_le, Option, None, Some, if◌then◌else◌}
 use Rattle.std.specs.Option.{option_and_then, option_map_or}
 use Rattle.std.specs.List.{AllByRecursion, filter, list_any, sum_by}
 use Rattle.mg_model.specs.declared.calls.Call.{Call}
@@ -117,6 +117,14 @@ step s (Compact through) =
 step s Stats =
     let documents = filter is_set (live s.mutations) in
     replies s (reply.Stats (length_of s) (length documents) (sum_by doc_size documents) (length (marks_of s)) s.epoch)
+
+-- A reply that takes memory, of itself or for what its call keeps: a set's or a delete's, a mark's, a document and a feed.
+abbrev pub takes_memory : Reply → Bool
+takes_memory (reply.Seq seq) = true
+takes_memory (reply.Found seq doc) = true
+takes_memory (reply.Feed epoch end items) = true
+takes_memory (reply.Marked mark) = true
+takes_memory other = false
 
 -- the greatest sequence number, and the greatest epoch
 abbrev pub seq_limit : ℕ

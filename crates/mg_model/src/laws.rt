@@ -7,7 +7,7 @@ ghost use Rattle.mg_model.specs.declared.calls.Change.{Change};
 ghost use Rattle.mg_model.specs.declared.replies.Answer.{Answer};
 ghost use Rattle.mg_model.specs.State.{HasRoom, InLimits, IsState, length_of, State, new_state, step};
 ghost use Rattle.mg_model.specs.History.{History, after_calls, after_change, after_changes, AllAllowed, allows, call_at, call_for, caller_at, change_of, changes_of, low, own_calls, own_places, state_at};
-ghost use Rattle.mg_model.specs.Placed.{changes_at, changes_in, history_in, Opening, Placed};
+ghost use Rattle.mg_model.specs.Placed.{changes_at, changes_in, CutsBehind, history_in, Opening, Placed, up_to};
 ghost use Rattle.mg_model.specs.Fits.{Fits};
 
 /// A history's changes, made one after another, lead to the state to which its calls lead. So a log of
@@ -66,4 +66,12 @@ pub fn answers_go_on_fitting()
 /// The one order of all partitions' changes has each partition's own changes, in their order.
 pub fn one_order_serves_all_partitions()
     ensures { (opening : Opening) (placed : List Placed) (part : ℕ) → changes_at (changes_in opening placed) part ≡ changes_of (opening part) (map (λ e. e.1) (history_in placed part)) }
+{}
+
+/// One number of the shared log cuts all partitions: the changes up to it are those of the first placed calls, so each
+/// partition is left with a front of its history and the state to which this leads. A cut at a later number has all that
+/// one at an earlier number has.
+pub fn one_cut_leaves_fronts()
+    ensures fronts { (opening : Opening) (counted number : ℕ) (placed : List Placed) → CutsBehind opening counted number placed }
+    ensures later { (counted earlier number : ℕ) (changes : List (ℕ × Change)) → earlier ≤ number → up_to counted earlier (up_to counted number changes) ≡ up_to counted earlier changes }
 {}

@@ -17,8 +17,9 @@ mod scan;
 pub use calls::{Call, Change};
 pub use laws::{
     answers_go_on_fitting, calls_make_the_allowed_changes, changes_lead_where_calls_lead,
-    lists_of_changes_are_those_of_calls, low_is_the_least_length, one_order_serves_all_partitions,
-    own_places_have_own_calls, room_keeps_the_limits, states_stay_states,
+    lists_of_changes_are_those_of_calls, low_is_the_least_length, one_cut_leaves_fronts,
+    one_order_serves_all_partitions, own_places_have_own_calls, room_keeps_the_limits,
+    states_stay_states,
 };
 pub use machine::Plain;
 pub use mg_types::{Doc, Fault, FileId, Item, Key, Kind, Why};

@@ -1,8 +1,8 @@
 //! The plain machine: a vector of mutations, searched from end to end.
 
-ghost use Rattle.std.specs.Prelude.{◌≡◌, ◌+◌, ◌≤◌, IfOk, IsOkUnless, None, OnErr, OnOk};
+ghost use Rattle.std.specs.Prelude.{◌≡◌, ◌+◌, ◌≤◌, IfOk, IsOkUnless, IsTrue, None, OnErr, OnOk};
 ghost use Rattle.mg_model.specs.Mutations.{read};
-ghost use Rattle.mg_model.specs.State.{after_back, after_write, at_limit, EndsWithin, epoch_limit, feed_reply, get_reply, HasRoom, length_of, new_state, seq_limit, step, worn};
+ghost use Rattle.mg_model.specs.State.{after_back, after_write, at_limit, EndsWithin, epoch_limit, feed_reply, get_reply, HasRoom, length_of, new_state, seq_limit, step, takes_memory, worn};
 
 use crate::calls::Call;
 use crate::marks::{cut_marks, greatest_at_most, least_of, remove_mark};
@@ -90,12 +90,14 @@ impl Plain {
         }
     }
 
-    /// One step: the state after the call and its reply are the definition's.
+    /// One step: the state after the call and its reply are the definition's. A forget, a rollback, a clear, a sync, a
+    /// compaction and stats take no memory, so they are always `Ok`.
     pub fn apply(&mut self, alloc: Global, call: &Call) -> Result<Reply, Fault>
         requires room { HasRoom self.old call.now }
         requires within { EndsWithin self.old call.now }
         ensures step { IfOk result (λ reply. step self.old call.now ≡ record { state = self.new; reply = reply }) }
         ensures err { IsOkUnless result Fault.NoMemory }
+        ensures memory { OnErr result (IsTrue (takes_memory (step self.old call.now).reply)) }
         ensures same { OnErr result (self.new ≡ self.old) }
     {
         match call {
@@ -134,6 +136,7 @@ impl Plain {
     fn get(&self, alloc: Global, key: &Key) -> Result<Reply, Fault>
         ensures reply { IfOk result (λ reply. reply ≡ get_reply (read self.now.mutations key.now)) }
         ensures err { IsOkUnless result Fault.NoMemory }
+        ensures memory { OnErr result (IsTrue (takes_memory (get_reply (read self.now.mutations key.now)))) }
     {
         let place = newest_place(&self.mutations, key);
         if place == 0 {
@@ -151,6 +154,7 @@ impl Plain {
     fn feed(&self, alloc: Global, epoch: u64, after: u64, limit: u16) -> Result<Reply, Fault>
         ensures reply { IfOk result (λ reply. reply ≡ feed_reply self.now epoch after limit) }
         ensures err { IsOkUnless result Fault.NoMemory }
+        ensures memory { OnErr result (IsTrue (takes_memory (feed_reply self.now epoch after limit))) }
     {
         let length = self.length();
         if epoch != self.epoch {
@@ -171,6 +175,7 @@ impl Plain {
     fn mark(&mut self) -> Result<Reply, Fault>
         ensures step { IfOk result (λ reply. step self.old Call.Mark ≡ record { state = self.new; reply = reply }) }
         ensures err { IsOkUnless result Fault.NoMemory }
+        ensures memory { OnErr result (IsTrue (takes_memory (step self.old Call.Mark).reply)) }
         ensures same { OnErr result (self.new ≡ self.old) }
     {
         let mark = self.length();

@@ -1,7 +1,8 @@
-use Rattle.std.proofs.Common.{◌≡◌, ◌∙◌, ap, arith, sym}
+use Rattle.std.proofs.Common.{◌≡◌, ◌∙◌, IsTrue, OnErr, Result, Ok, Err, ap, arith, refl, subst, sym}
 use Rattle.mg_model.specs.declared.replies.Reply.TheVariants.{Found}
+use Rattle.mg_model.specs.declared.replies.Reply.{Reply}
 use Rattle.mg_model.specs.Mutations.{held, newest, read}
-use Rattle.mg_model.specs.State.{State, get_reply}
+use Rattle.mg_model.specs.State.{State, get_reply, takes_memory}
 use Rattle.mg_model.proofs.ListLemmas.{get_absent, get_found, get_deleted, newest_within}
 use Rattle.mg_model.proofs.machine.Plain.get.Goals as goal
 
@@ -29,3 +30,14 @@ returns-in-None-clause-reply c =
     let view = ap (λ (s : State). get_reply (read s.mutations c.args.key.now)) c.self.view_is in
     let read = get_deleted c.self.inside.mutations.items c.args.key.now c.newest_place-place.result c.index.result.now found c.if-place-eq0.false c.index.ensures c.in-None.is in
     sym read ∙ view
+
+pub returns-in_err-copy-in-Some-clause-memory : goal.returns-in_err-copy-in-Some-clause-memory
+returns-in_err-copy-in-Some-clause-memory c =
+    let found : newest (held c.self.inside.mutations.items) c.args.key.now ≡ c.newest_place-place.result = cc in
+    let view = ap (λ (s : State). get_reply (read s.mutations c.args.key.now)) c.self.view_is in
+    let read = get_found c.self.inside.mutations.items c.args.key.now c.newest_place-place.result c.index.result.now c.in-Some.doc found c.if-place-eq0.false c.index.ensures c.in-Some.is in
+    on_err c.from_residual.result _ (subst (λ (r : Reply). IsTrue (takes_memory r)) (sym read ∙ view) refl)
+  where
+    on_err : {T E : Type 0} (r : Result T E) (P : Type 0) → P → OnErr r P
+    on_err (Ok x) P p = tt
+    on_err (Err e) P p = p
