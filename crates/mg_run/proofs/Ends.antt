@@ -47,20 +47,20 @@ breaks_in_calls left left' w w' a b first now least bytes lines r s f = record {
   text = f.text;
 }
 
-pub stops_in_calls : (left left' w w' : Option (List ℕ)) (a b first now : ℕ) (bytes : List ℕ) (lines : List Line) (f : Fault) → ReadsAll left left' bytes → script_of 1 bytes ≡ Ok lines → StopsCalls lines w w' first now f → Stops 1 empty_opening (seen left a w first) (seen left' b w' now) f
-stops_in_calls left left' w w' a b first now bytes lines fault.NoMemory r s c = inr (breaks_in_calls left left' w w' a b first now 0 bytes lines r s c)
-stops_in_calls left left' w w' a b first now bytes lines fault.WriteFault r s c = (c.0, breaks_in_calls left left' w w' a b first now 1 bytes lines r s c.1)
-stops_in_calls left left' w w' a b first now bytes lines fault.ReadFault r s c = absurd c
-stops_in_calls left left' w w' a b first now bytes lines (fault.Damaged file at kept found) r s c = c
-stops_in_calls left left' w w' a b first now bytes lines (fault.Missing file) r s c = c
-stops_in_calls left left' w w' a b first now bytes lines (fault.Gap part applied low high) r s c = c
-stops_in_calls left left' w w' a b first now bytes lines (fault.BadLine line why) r s c = absurd c
-stops_in_calls left left' w w' a b first now bytes lines (fault.TooLong limit) r s c = absurd c
-stops_in_calls left left' w w' a b first now bytes lines fault.BadWords r s c = c
-stops_in_calls left left' w w' a b first now bytes lines (fault.BadSettings at) r s c = c
-stops_in_calls left left' w w' a b first now bytes lines (fault.FewerParts asked kept) r s c = c
-stops_in_calls left left' w w' a b first now bytes lines (fault.Malformed file at) r s c = c
-stops_in_calls left left' w w' a b first now bytes lines (fault.Worn kept) r s c = c
+pub stops_in_calls : (left left' w w' : Option (List ℕ)) (a b first now : ℕ) (bytes : List ℕ) (lines : List Line) (f : Fault) → b ≡ a → ReadsAll left left' bytes → script_of 1 bytes ≡ Ok lines → StopsCalls lines w w' first now f → Stops 1 empty_opening (seen left a w first) (seen left' b w' now) f
+stops_in_calls left left' w w' a b first now bytes lines fault.NoMemory k r s c = inr (breaks_in_calls left left' w w' a b first now 0 bytes lines r s c)
+stops_in_calls left left' w w' a b first now bytes lines fault.WriteFault k r s c = ((c.0, breaks_in_calls left left' w w' a b first now 1 bytes lines r s c.1), k)
+stops_in_calls left left' w w' a b first now bytes lines fault.ReadFault k r s c = absurd c
+stops_in_calls left left' w w' a b first now bytes lines (fault.Damaged file at kept found) k r s c = c
+stops_in_calls left left' w w' a b first now bytes lines (fault.Missing file) k r s c = c
+stops_in_calls left left' w w' a b first now bytes lines (fault.Gap part applied low high) k r s c = c
+stops_in_calls left left' w w' a b first now bytes lines (fault.BadLine line why) k r s c = absurd c
+stops_in_calls left left' w w' a b first now bytes lines (fault.TooLong limit) k r s c = absurd c
+stops_in_calls left left' w w' a b first now bytes lines fault.BadWords k r s c = c
+stops_in_calls left left' w w' a b first now bytes lines (fault.BadSettings at) k r s c = c
+stops_in_calls left left' w w' a b first now bytes lines (fault.FewerParts asked kept) k r s c = c
+stops_in_calls left left' w w' a b first now bytes lines (fault.Malformed file at) k r s c = c
+stops_in_calls left left' w w' a b first now bytes lines (fault.Worn kept) k r s c = c
 
 -- the end line of a session is that of the placed calls
 session_ends : (session : Session) (lines : List Line) (answers : List Answer) → StandsAt session lines answers → session_end session ≡ end_text empty_opening (placed_of lines answers) 0
@@ -96,20 +96,20 @@ breaks_at_end left left' w w' w'' a b first now least bytes lines session r s d 
       text = Appends-trans w w' w'' (joined calls) f.front d.text f.text;
     }
 
-pub stops_at_end : (left left' w w' w'' : Option (List ℕ)) (a b first before now : ℕ) (bytes : List ℕ) (lines : List Line) (session : Session) (f : Fault) → ReadsAll left left' bytes → script_of 1 bytes ≡ Ok lines → Answered session lines w w' → first ≤ before → StopsWriting w' w'' before now (session_end session) f → Stops 1 empty_opening (seen left a w first) (seen left' b w'' now) f
-stops_at_end left left' w w' w'' a b first before now bytes lines session fault.NoMemory r s d l e = inr (breaks_at_end left left' w w' w'' a b first now 0 bytes lines session r s d e)
-stops_at_end left left' w w' w'' a b first before now bytes lines session fault.WriteFault r s d l e = (rose_since first before now l e.0, breaks_at_end left left' w w' w'' a b first now 1 bytes lines session r s d e.1)
-stops_at_end left left' w w' w'' a b first before now bytes lines session fault.ReadFault r s d l e = absurd e
-stops_at_end left left' w w' w'' a b first before now bytes lines session (fault.Damaged file at kept found) r s d l e = e
-stops_at_end left left' w w' w'' a b first before now bytes lines session (fault.Missing file) r s d l e = e
-stops_at_end left left' w w' w'' a b first before now bytes lines session (fault.Gap part applied low high) r s d l e = e
-stops_at_end left left' w w' w'' a b first before now bytes lines session (fault.BadLine line why) r s d l e = absurd e
-stops_at_end left left' w w' w'' a b first before now bytes lines session (fault.TooLong limit) r s d l e = absurd e
-stops_at_end left left' w w' w'' a b first before now bytes lines session fault.BadWords r s d l e = e
-stops_at_end left left' w w' w'' a b first before now bytes lines session (fault.BadSettings at) r s d l e = e
-stops_at_end left left' w w' w'' a b first before now bytes lines session (fault.FewerParts asked kept) r s d l e = e
-stops_at_end left left' w w' w'' a b first before now bytes lines session (fault.Malformed file at) r s d l e = e
-stops_at_end left left' w w' w'' a b first before now bytes lines session (fault.Worn kept) r s d l e = e
+pub stops_at_end : (left left' w w' w'' : Option (List ℕ)) (a b first before now : ℕ) (bytes : List ℕ) (lines : List Line) (session : Session) (f : Fault) → b ≡ a → ReadsAll left left' bytes → script_of 1 bytes ≡ Ok lines → Answered session lines w w' → first ≤ before → StopsWriting w' w'' before now (session_end session) f → Stops 1 empty_opening (seen left a w first) (seen left' b w'' now) f
+stops_at_end left left' w w' w'' a b first before now bytes lines session fault.NoMemory k r s d l e = inr (breaks_at_end left left' w w' w'' a b first now 0 bytes lines session r s d e)
+stops_at_end left left' w w' w'' a b first before now bytes lines session fault.WriteFault k r s d l e = ((rose_since first before now l e.0, breaks_at_end left left' w w' w'' a b first now 1 bytes lines session r s d e.1), k)
+stops_at_end left left' w w' w'' a b first before now bytes lines session fault.ReadFault k r s d l e = absurd e
+stops_at_end left left' w w' w'' a b first before now bytes lines session (fault.Damaged file at kept found) k r s d l e = e
+stops_at_end left left' w w' w'' a b first before now bytes lines session (fault.Missing file) k r s d l e = e
+stops_at_end left left' w w' w'' a b first before now bytes lines session (fault.Gap part applied low high) k r s d l e = e
+stops_at_end left left' w w' w'' a b first before now bytes lines session (fault.BadLine line why) k r s d l e = absurd e
+stops_at_end left left' w w' w'' a b first before now bytes lines session (fault.TooLong limit) k r s d l e = absurd e
+stops_at_end left left' w w' w'' a b first before now bytes lines session fault.BadWords k r s d l e = e
+stops_at_end left left' w w' w'' a b first before now bytes lines session (fault.BadSettings at) k r s d l e = e
+stops_at_end left left' w w' w'' a b first before now bytes lines session (fault.FewerParts asked kept) k r s d l e = e
+stops_at_end left left' w w' w'' a b first before now bytes lines session (fault.Malformed file at) k r s d l e = e
+stops_at_end left left' w w' w'' a b first before now bytes lines session (fault.Worn kept) k r s d l e = e
 
 -- the run came to its end
 pub finished : (left left' w w' w'' : Option (List ℕ)) (a b first mid now : ℕ) (bytes : List ℕ) (lines : List Line) (session : Session) → ReadsAll left left' bytes → script_of 1 bytes ≡ Ok lines → Answered session lines w w' → Appends w' w'' (session_end session) → b ≡ a → mid ≡ first → now ≡ mid → Finishes 1 empty_opening (seen left a w first) (seen left' b w'' now) session.status

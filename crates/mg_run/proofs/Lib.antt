@@ -4,3 +4,5 @@ pub mod Entries
 pub mod Pieces
 pub mod ServingLemmas
 pub mod Standing
+pub mod Told
+pub mod Shown

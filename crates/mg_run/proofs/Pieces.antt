@@ -1,12 +1,12 @@
 -- Reading and writing piece by piece, as loops do.
-use Rattle.std.proofs.Common.{◌≡◌, ◌≤◌, ℕ, ◌+◌, ◌-◌, List, [], ◌++◌, length, take, drop, Option, ap, sym, ◌∙◌, arith}
+use Rattle.std.proofs.Common.{◌≡◌, ◌≤◌, ℕ, ◌+◌, ◌-◌, List, ◌++◌, length, take, drop, Option, ap, sym, ◌∙◌, arith}
 use Rattle.std.proofs.lemmas.List.{append_assoc, length-append, take-append-drop}
 use Rattle.mg_faults.specs.Causes.{Rose}
 use Rattle.mg_types.specs.declared.faults.Fault.{Fault}
 use Rattle.mg_types.specs.declared.faults.Fault.TheVariants as fault
-use Rattle.mg_run.specs.Runs.{FailsRead, ReadsAll, StopsReading, TakesSome, script_limit}
-use Rattle.std.specs.Io.KnownBytes.{Consumes, Keeps}
-use Rattle.std.proofs.KnownBytes.{Consumes-kept, Consumes-nil, Consumes-trans}
+use Rattle.mg_run.specs.Runs.{FailsRead, StopsReading, script_limit}
+use Rattle.std.specs.Io.KnownBytes.{Consumes}
+use Rattle.std.proofs.KnownBytes.{Consumes-kept, Consumes-trans}
 
 -- a count that rose from a later moment on rose from an earlier one on
 pub rose_since : (first before now : ℕ) → first ≤ before → Rose before now → Rose first now
@@ -27,13 +27,6 @@ stops_reading left mid left' bytes first before now (fault.FewerParts asked kept
 stops_reading left mid left' bytes first before now (fault.Malformed file at) t few l r = r
 stops_reading left mid left' bytes first before now (fault.Worn kept) t few l r = r
 stops_reading left mid left' bytes first before now fault.WriteFault t few l r = r
-
--- where nothing was taken, and where all was read, no more than the limit was taken
-pub takes_none : (left left' : Option (List ℕ)) (most : ℕ) → Keeps left left' → TakesSome left left' most
-takes_none left left' most k = record { bytes = []; taken = Consumes-kept left left left' [] (Consumes-nil left) k; in_limit = omega arith }
-
-pub takes_all : (left left' : Option (List ℕ)) (bytes : List ℕ) → ReadsAll left left' bytes → TakesSome left left' (script_limit + 1)
-takes_all left left' bytes r = record { bytes = bytes; taken = r.taken; in_limit = omega (arith, r.in_limit) }
 
 -- one piece more was written
 pub split_on : (bytes front rest behind : List ℕ) (n : ℕ) → bytes ≡ front ++ rest → behind ≡ drop n rest → bytes ≡ (front ++ take n rest) ++ behind

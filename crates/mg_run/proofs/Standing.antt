@@ -20,7 +20,8 @@ use Rattle.mg_run.specs.Sessions.{NextAnswer, StandsAt}
 use Rattle.mg_run.proofs.Answering.{fit-push, placed-push, status-push}
 use Rattle.mg_run.proofs.Entries.{fits_next, history_zero}
 
-count-push : {X : Type 0} (p : X → Bool) (xs : List X) (x : X) → count_by p (xs ++ x ∷ []) ≡ count_by p xs + cond (p x) 1 0
+-- one more to count
+pub count-push : {X : Type 0} (p : X → Bool) (xs : List X) (x : X) → count_by p (xs ++ x ∷ []) ≡ count_by p xs + cond (p x) 1 0
 count-push p xs x = let parts : count_by p (xs ++ x ∷ []) ≡ count_by p xs + (0 + cond (p x) 1 0) = sum_by-append (λ y. cond (p y) 1 0) xs (x ∷ []) in parts ∙ ap (λ n. count_by p xs + n) (zero-add (cond (p x) 1 0))
 
 -- one call more of a client, where the others have as many as before

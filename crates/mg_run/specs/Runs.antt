@@ -1,6 +1,7 @@
 -- What a run reads, writes and answers.
-use Rattle.std.specs.Prelude.{◌≡◌, ◌<◌, ◌≤◌, ℕ, zero, suc, ◌+◌, ⊤, List, [], ◌∷◌, ◌++◌, length, take, map, codes, ◌||◌, ◌==◌, Option, Result, Ok, Err, ◌⊎◌, if◌then◌else◌}
-use Rattle.std.specs.List.{count_by, filter, flat_map, fold}
+use Rattle.std.specs.Prelude.{◌≡◌, ◌<◌, ◌≤◌, ℕ, zero, suc, ◌+◌, List, [], ◌∷◌, ◌++◌, length, take, map, codes, ◌||◌, ◌==◌, Option, Result, Ok, Err, ◌⊎◌, if◌then◌else◌}
+use Rattle.std.specs.Option.{option_to_list}
+use Rattle.std.specs.List.{count_by, filter, flat_map, fold, zip}
 use Rattle.std.specs.Io.KnownBytes.{Appends, Consumes, IsAtEnd, Keeps}
 use Rattle.mg_faults.specs.Causes.{Rose}
 use Rattle.mg_types.specs.declared.faults.Fault.{Fault}
@@ -56,6 +57,24 @@ numbered_text it = answer_line it.client it.number it.part it.answer
 -- of numbered answers those to one client
 abbrev pub told_by : List NumberedAnswer → ℕ → List NumberedAnswer
 told_by answers client = filter (λ it. it.client == client) answers
+
+-- the lines of one client, each with its answer
+abbrev pub answered_of : List Line → List Answer → ℕ → List (Line × Answer)
+answered_of lines answers client = filter (λ it. it.0.client == client) (zip lines answers)
+
+-- answers to lines, numbered one after the other, the first by this number
+abbrev pub counted_from : ℕ → List (Line × Answer) → List NumberedAnswer
+counted_from number [] = []
+counted_from number (it ∷ its) = record { client = it.0.client; number = number; part = it.0.part; answer = it.1 } ∷ counted_from (number + 1) its
+
+-- What a client is told: an answer to each of its lines, in their order, numbered from 1.
+pub record IsTold (lines : List Line) (answers : List Answer) (client : ℕ) : Type 0 where
+  pub order : told_by (numbered [] lines answers) client ≡ counted_from 1 (answered_of lines answers client)
+  pub each : map (λ it. it.0) (answered_of lines answers client) ≡ filter (λ line. line.client == client) lines
+
+-- the places that a client is shown of one partition, in the order of its lines
+abbrev pub places_shown : List NumberedAnswer → ℕ → ℕ → List ℕ
+places_shown answers client part = flat_map (λ it. option_to_list it.answer.place) (filter (λ it. it.part == part) (told_by answers client))
 
 -- the lines of the answers, one by one
 abbrev pub call_texts : List Line → List Answer → List (List ℕ)
@@ -172,16 +191,26 @@ pub record TakesSome (left left' : Option (List ℕ)) (most : ℕ) : Type 0 wher
 abbrev pub StopsReading : Option (List ℕ) → Option (List ℕ) → ℕ → ℕ → Fault → Type 0
 StopsReading left left' faults faults' fault.NoMemory = TakesSome left left' (script_limit + 1)
 StopsReading left left' faults faults' fault.ReadFault = Rose faults faults' × TakesSome left left' script_limit
-StopsReading left left' faults faults' (fault.TooLong limit) = IsTooLong left left' limit
+StopsReading left left' faults faults' (fault.TooLong limit) = IsTooLong left left' limit × (faults' ≡ faults)
 StopsReading left left' faults faults' other = ⊥
 
--- why a run of so many partitions over good words stopped, and what it had read and written
+-- no read failed
+abbrev pub ReadsWell : Seen → Seen → Type 0
+ReadsWell before after = after.read_faults ≡ before.read_faults
+
+-- nothing was written, and no write failed
+pub record WritesNothing (before after : Seen) : Type 0 where
+  pub text : Keeps before.written after.written
+  pub faults : after.write_faults ≡ before.write_faults
+
+-- Why a run of so many partitions over good words stopped, and what it had read and written. A count of faults of which the
+-- named fault is not is as before, but after want of memory.
 abbrev pub Stops : ℕ → Opening → Seen → Seen → Fault → Type 0
-Stops parts opening before after fault.NoMemory = (TakesSome before.left after.left (script_limit + 1) × Keeps before.written after.written) ⊎ BreaksOff parts opening before after 0
-Stops parts opening before after fault.ReadFault = (Rose before.read_faults after.read_faults × TakesSome before.left after.left script_limit) × Keeps before.written after.written
-Stops parts opening before after fault.WriteFault = Rose before.write_faults after.write_faults × BreaksOff parts opening before after 1
-Stops parts opening before after (fault.BadLine line why) = IsBadLine parts before.left after.left line why × Keeps before.written after.written
-Stops parts opening before after (fault.TooLong limit) = IsTooLong before.left after.left limit × Keeps before.written after.written
+Stops parts opening before after fault.NoMemory = (TakesSome before.left after.left (script_limit + 1) × WritesNothing before after) ⊎ BreaksOff parts opening before after 0
+Stops parts opening before after fault.ReadFault = (Rose before.read_faults after.read_faults × TakesSome before.left after.left script_limit) × WritesNothing before after
+Stops parts opening before after fault.WriteFault = (Rose before.write_faults after.write_faults × BreaksOff parts opening before after 1) × ReadsWell before after
+Stops parts opening before after (fault.BadLine line why) = (IsBadLine parts before.left after.left line why × ReadsWell before after) × WritesNothing before after
+Stops parts opening before after (fault.TooLong limit) = (IsTooLong before.left after.left limit × ReadsWell before after) × WritesNothing before after
 Stops parts opening before after other = ⊥
 
 -- why one read gave nothing, with so many bytes that it could take; of the input nothing was taken where it failed
