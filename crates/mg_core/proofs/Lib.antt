@@ -1,0 +1,15 @@
+pub mod ListLemmas
+pub mod ItemLemmas
+pub mod EntryLemmas
+pub mod FlushLemmas
+pub mod MergeLemmas
+pub mod CleanLemmas
+pub mod ReadLemmas
+pub mod NeedLemmas
+pub mod OpeningLemmas
+pub mod ResultLemmas
+pub mod WrongLemmas
+pub mod SortLemmas
+pub mod TightLemmas
+pub mod MemtableLemmas
+pub mod KeepLemmas

@@ -1,0 +1,9 @@
+pub mod Lists
+pub mod Layouts
+pub mod Results
+pub mod Reads
+pub mod Need
+pub mod Opening
+pub mod Keeping
+pub mod Memtables
+pub mod ByHand
