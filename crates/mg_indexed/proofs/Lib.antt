@@ -1,0 +1,6 @@
+pub mod FieldLaws
+pub mod HandleLaws
+pub mod IndexLaws
+pub mod LoadingLaws
+pub mod LoadingSteps
+pub mod WritingLaws

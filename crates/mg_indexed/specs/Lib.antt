@@ -1,0 +1,11 @@
+pub mod Footer
+pub mod Forms
+pub mod Index
+pub mod Keys
+pub mod Laws
+pub mod Loading
+pub mod NumberKeyLaws
+pub mod NumberKeys
+pub mod TableKeyLaws
+pub mod TableKeys
+pub mod Writing
