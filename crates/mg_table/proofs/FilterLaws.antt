@@ -50,7 +50,6 @@ IsFilterOf-folded hashed count old new is size has keeps = record {
 
 -- keys have one filter
 pub same_filter : (hashed : List (List ℕ)) (filter other : List ℕ) → AreBytes filter → AreBytes other → IsFilterOf hashed filter → IsFilterOf hashed other → filter ≡ other
-unfolding AreBytes
 same_filter hashed filter other small small' is is' = one_filter (length hashed) (concat hashed) filter other small small' is.size is'.size is.bits is'.bits
 
 -- a body that is compared with a filter of keys

@@ -1,9 +1,9 @@
 ghost use Rattle.std.specs.Prelude.{◌≢◌, [], OnOk};
 
 use super::*;
-use mg_disk::Files;
+use mg_disk::{DiskError, Files};
 use mg_memdisk::{MemDraft, MemFiles, MemSealed};
-use mg_sealed::{append_frame, seal_frames, start_frames};
+use mg_sealed::{Blocks, append_frame, seal_frames, start_frames};
 use mg_types::{Entry, Fault, FileId, Key, Kind};
 use std::alloc::Global;
 use std::test::Fail;
@@ -237,75 +237,243 @@ fn each_altered_byte_is_refused_or_changes_nothing(rt: HostRuntime) {
     }
 }
 
-/// How many entries are listed of the file of frames whose bodies have these lengths, and whether its filter is theirs.
-fn scanned(alloc: Global, bodies: &[u8], lens: &[usize]) -> Result<(usize, bool), Fault> {
-    let mut port = MemFiles::new(Vec::new(alloc));
-    let mut writer = start_frames(alloc, &mut port)?;
-    let mut at = 0usize;
-    for len in lens {
-        let len = *len;
-        if at > 1_000 || len > 100 || bodies.len() < at + len || writer.len() > 10_000 {
+/// The table of the frames with these bodies, whose digests are right.
+fn table_of(
+    alloc: Global,
+    port: &mut MemFiles,
+    bodies: &[&[u8]],
+) -> Result<Table<MemSealed>, Fault> {
+    let mut writer = start_frames(alloc, port)?;
+    for body in bodies {
+        if body.len() > 100 || writer.len() > 10_000 {
             return Err(Fault::BadWords);
         }
-        append_frame(alloc, &mut port, &mut writer, &bodies[at..at + len])?;
-        at += len;
+        append_frame(alloc, port, &mut writer, body)?;
     }
     let len = writer.len();
     if len > 10_000 {
         return Err(Fault::BadWords);
     }
-    let file = seal_frames(alloc, &mut port, writer, ID)?;
-    let table = Table::load(alloc, &mut port, ID, file.file, len)?;
+    let file = seal_frames(alloc, port, writer, ID)?;
+    Table::load(alloc, port, ID, file.file, len)
+}
+
+/// How many entries are listed of the table of these frames, and whether its filter is theirs.
+fn scanned(alloc: Global, bodies: &[&[u8]]) -> Result<(usize, bool), Fault> {
+    let mut port = MemFiles::new(Vec::new(alloc));
+    let table = table_of(alloc, &mut port, bodies)?;
     let entries = table.scan(alloc, &mut port)?;
     let right = table.has_filter_of(alloc, entries.as_slice())?;
     Ok((entries.len(), right))
 }
 
-/// The bytes with another one at a place.
-fn altered(alloc: Global, bytes: &[u8], at: usize, byte: u8) -> Result<Vec<u8>, Fault> {
-    let mut altered = bytes.to_vec(alloc)?;
-    if at < altered.len() {
-        altered[at] = byte;
+/// The bodies of the worked table's frames: the block from 0, the index from 34, the filter from 48, the footer from 56.
+const BODIES: [u8; 109] =
+    *b"\0\x01a\x0d\0\0\0\0\0\0\0\x03\0\0\0\x02\0\0\x01b\x0d\0\0\0\0\0\0\0\x02\0\0\0\x02\0\
+    \x01a\0\0\0\0\0\0\0\0\0\0\0\x36\
+    \x21\x24\x44\0\x20\x40\x1c\x01\
+    \x01\0\0\0\0\0\0\0\x02\0\0\0\0\0\0\0\x04\0\0\0\0\0\0\0\0\0\0\0\0\0\0\0\x03\
+    \0\0\0\0\0\0\0\x36\0\0\0\0\0\0\0\x58\0\0\0\x01";
+
+/// These bodies with another byte at a place.
+fn altered(at: usize, byte: u8) -> [u8; 109] {
+    let mut bodies = BODIES;
+    if at < 109 {
+        bodies[at] = byte;
     }
-    Ok(altered)
+    bodies
+}
+
+/// What `scanned` says of the worked table with another byte at a place of these bodies.
+fn scanned_altered(alloc: Global, at: usize, byte: u8) -> Result<(usize, bool), Fault> {
+    let bodies = altered(at, byte);
+    scanned(
+        alloc,
+        &[
+            &bodies[..34],
+            &bodies[34..48],
+            &bodies[48..56],
+            &bodies[56..],
+        ],
+    )
+}
+
+const fn malformed(at: u64) -> Fault {
+    Fault::Malformed { file: ID, at }
 }
 
 #[test]
-fn frames_of_no_table_are_refused(rt: HostRuntime) -> Result<(), Fail> {
-    let alloc = rt.alloc();
-    let malformed = |at| Err(Fault::Malformed { file: ID, at });
-    // The bodies of the worked table's frames: the block from 0, the index from 34, the filter from 48, the footer from 56.
-    let mut bodies = WORKED[12..46].to_vec(alloc)?;
-    bodies.extend_from_slice(&WORKED[66..80])?;
-    bodies.extend_from_slice(&WORKED[100..108])?;
-    bodies.extend_from_slice(&WORKED[128..181])?;
-    let rows: [(usize, u8, Result<(usize, bool), Fault>); 7] = [
+fn frames_of_no_table_are_refused(rt: HostRuntime) {
+    for (at, byte, answer) in [
         (0, 0, Ok((2, true))),
         // A bit of the filter, the footer's count and its sum, the first key in the index.
         (55, 3, Ok((2, false))),
-        (64, 3, malformed(116)),
-        (72, 5, malformed(116)),
-        (35, b'A', malformed(0)),
+        (64, 3, Err(malformed(116))),
+        (72, 5, Err(malformed(116))),
+        (35, b'A', Err(malformed(0))),
         // The number 0, and a key twice.
-        (11, 0, malformed(0)),
-        (19, b'a', malformed(0)),
-    ];
-    for (at, byte, answer) in rows {
-        let changed = altered(alloc, &bodies, at, byte)?;
-        let seen = scanned(alloc, &changed, &[34, 14, 8, 53]);
+        (11, 0, Err(malformed(0))),
+        (19, b'a', Err(malformed(0))),
+    ] {
+        let seen = scanned_altered(rt.alloc(), at, byte);
         assert!(rt; seen == answer, "byte {at}");
     }
-    // Two blocks where one would do: the index has both, and the footer says two.
-    let mut two = WORKED[12..46].to_vec(alloc)?;
-    two.extend_from_slice(&[
-        1, b'a', 0, 0, 0, 0, 0, 0, 0, 0, 0, 0, 0, 37, 1, b'b', 0, 0, 0, 0, 0, 0, 0, 37, 0, 0, 0, 37,
-    ])?;
-    two.extend_from_slice(&WORKED[100..108])?;
-    two.extend_from_slice(&WORKED[128..181])?;
-    let two = altered(alloc, &two, 70 + 40, 74)?;
-    let two = altered(alloc, &two, 70 + 48, 122)?;
-    let two = altered(alloc, &two, 70 + 52, 2)?;
-    assert!(rt; scanned(alloc, &two, &[17, 17, 28, 8, 53]) == malformed(37));
+}
+
+/// The index of two blocks where one would do, and the footer that says them.
+const TWO_HANDLES: &[u8] = b"\x01a\0\0\0\0\0\0\0\0\0\0\0\x25\x01b\0\0\0\0\0\0\0\x25\0\0\0\x25";
+
+const TWO_BLOCKS: &[u8] =
+    b"\x01\0\0\0\0\0\0\0\x02\0\0\0\0\0\0\0\x04\0\0\0\0\0\0\0\0\0\0\0\0\0\0\0\x03\
+    \0\0\0\0\0\0\0\x4a\0\0\0\0\0\0\0\x7a\0\0\0\x02";
+
+#[test]
+fn a_block_that_was_closed_too_early_is_refused(rt: HostRuntime) {
+    let seen = scanned(
+        rt.alloc(),
+        &[
+            &BODIES[..17],
+            &BODIES[17..34],
+            TWO_HANDLES,
+            &BODIES[48..56],
+            TWO_BLOCKS,
+        ],
+    );
+    assert!(rt; seen == Err(malformed(37)));
+}
+
+#[test]
+fn a_find_judges_the_first_key_of_its_block(rt: HostRuntime) -> Result<(), Fail> {
+    let alloc = rt.alloc();
+    let mut port = MemFiles::new(Vec::new(alloc));
+    // The block begins with "a", and its handle says "A".
+    let bodies = altered(35, b'A');
+    let table = table_of(
+        alloc,
+        &mut port,
+        &[
+            &bodies[..34],
+            &bodies[34..48],
+            &bodies[48..56],
+            &bodies[56..],
+        ],
+    )?;
+    for key in [b"a".as_slice(), b"b".as_slice()] {
+        let seen = found(alloc, &mut port, &table, key);
+        assert!(rt; seen == Err(malformed(0)));
+    }
+    Ok(())
+}
+
+/// A port that counts its reads and the bytes that they give.
+#[derive(Drop)]
+struct CountingFiles<F> {
+    files: F,
+    reads: u64,
+    bytes: u64,
+}
+
+impl<F> CountingFiles<F> {
+    /// How many reads there were since the last call, and how many bytes they gave.
+    fn take_counts(&mut self) -> (u64, u64) {
+        let counts = (self.reads, self.bytes);
+        self.reads = 0;
+        self.bytes = 0;
+        counts
+    }
+}
+
+impl<F: Files> Blocks for CountingFiles<F> {}
+
+// Each call is one of the port below.
+impl<F: Files> Files for CountingFiles<F> {
+    type Draft = F::Draft;
+
+    type Sealed = F::Sealed;
+
+    ghost drafted = { F.drafted };
+
+    ghost told = { F.told };
+
+    ghost identity = { F.identity };
+
+    ghost faults = { λ port. F.faults port.files };
+
+    ghost bounded = { λ port. F.bounded port.files };
+
+    fn fresh(&mut self, alloc: Global) -> Result<F::Draft, DiskError> {
+        self.files.fresh(alloc)
+    }
+
+    fn append(
+        &mut self,
+        alloc: Global,
+        draft: &mut F::Draft,
+        bytes: &[u8],
+    ) -> Result<(), DiskError> {
+        self.files.append(alloc, draft, bytes)
+    }
+
+    fn seal(&mut self, alloc: Global, draft: F::Draft) -> Result<F::Sealed, DiskError> {
+        self.files.seal(alloc, draft)
+    }
+
+    fn len(&mut self, alloc: Global, file: &F::Sealed) -> Result<u64, DiskError> {
+        self.files.len(alloc, file)
+    }
+
+    fn read(
+        &mut self,
+        alloc: Global,
+        file: &F::Sealed,
+        at: u64,
+        buf: &mut [u8],
+    ) -> Result<usize, DiskError> {
+        self.reads = self.reads.saturating_add(1);
+        let read = self.files.read(alloc, file, at, buf)?;
+        self.bytes = self.bytes.saturating_add(read as u64);
+        Ok(read)
+    }
+
+    fn share(&self, alloc: Global, file: &F::Sealed) -> Result<F::Sealed, DiskError> {
+        self.files.share(alloc, file)
+    }
+
+    fn same(&self, a: &F::Sealed, b: &F::Sealed) -> bool {
+        self.files.same(a, b)
+    }
+
+    fn keeps(&self, file: &F::Sealed) -> bool {
+        self.files.keeps(file)
+    }
+}
+
+#[test]
+fn no_more_bytes_are_read_than_are_wanted(rt: HostRuntime) -> Result<(), Fail> {
+    let alloc = rt.alloc();
+    let mut files = MemFiles::new(Vec::new(alloc));
+    let file = seal(alloc, &mut files, &WORKED)?;
+    let mut port = CountingFiles {
+        files,
+        reads: 0,
+        bytes: 0,
+    };
+    let table = Table::load(alloc, &mut port, ID, file, 189)?;
+    // The frames of the footer, of the index and of the filter.
+    assert_eq!(rt; port.take_counts(), (3, 73 + 34 + 28));
+    for (key, counts) in [
+        (b"A".as_slice(), (0, 0)),
+        (b"a".as_slice(), (1, 54)),
+        (b"b".as_slice(), (1, 54)),
+    ] {
+        let Some(key) = Key::new(alloc, key)? else {
+            return Err(Fault::BadWords)?;
+        };
+        table.find(alloc, &mut port, &key)?;
+        assert_eq!(rt; port.take_counts(), counts);
+    }
+    table.scan(alloc, &mut port)?;
+    assert_eq!(rt; port.take_counts(), (1, 54));
     Ok(())
 }
 
@@ -338,6 +506,8 @@ fn each_of_many_keys_is_found_and_no_other(rt: HostRuntime) -> Result<(), Fail> 
     // Made by another program: 5,933 bytes, of which the first block's frame has the most.
     assert_eq!(rt; bytes_of(alloc, &mut port, &table)?.len(), 5_933);
     assert_eq!(rt; table.index.len(), 2);
+    // The filter was made for 5,000 keys with 65,536 bits, and folded to the 4,096 of 300 keys.
+    assert_eq!(rt; table.filter.bytes().len(), 512);
     for number in 0..300u64 {
         let seen = found(alloc, &mut port, &table, &key_of(2 * number))?;
         assert!(rt; seen == Some((number + 1, 23, number % 3 == 0)), "{number}");
