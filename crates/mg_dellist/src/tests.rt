@@ -1,7 +1,9 @@
 use super::*;
 use mg_disk::Files;
+use mg_frame::{put_u32, put_u64};
 use mg_memdisk::{MemDraft, MemFiles, MemSealed};
 use mg_records::Record;
+use mg_sealed::{append_frame, seal_frames, start_frames};
 use mg_types::{Fault, FileId, Kind};
 use std::alloc::Global;
 use std::test::Fail;
@@ -225,4 +227,259 @@ fn each_cut_is_refused(rt: HostRuntime) -> Result<(), Fail> {
         assert!(rt; fine, "cut at {len}");
     }
     Ok(())
+}
+
+/// How many entries are listed of the file of frames with these bodies, whose digests are right.
+fn count_listed(alloc: Global, bodies: &[&[u8]]) -> Result<usize, Fault> {
+    let mut port = MemFiles::new(Vec::new(alloc));
+    let mut writer = start_frames(alloc, &mut port)?;
+    for body in bodies {
+        if body.len() > 10_000 || writer.len() > 100_000 {
+            return Err(Fault::BadWords);
+        }
+        append_frame(alloc, &mut port, &mut writer, body)?;
+    }
+    let len = writer.len();
+    if len > 1 << 20 {
+        return Err(Fault::BadWords);
+    }
+    let file = seal_frames(alloc, &mut port, writer, ID)?;
+    let list = DelList::load(alloc, &mut port, ID, file.file, len)?;
+    Ok(list.scan(alloc, &mut port, 0)?.len())
+}
+
+/// The bodies of the frames of the list of (3, 7) and (5, 9): the block from 0, the index from 24, the footer from 44. The frames
+/// begin at 0, 44 and 84, and the file has 149 bytes.
+const BODIES: [u8; 89] = *b"\0\0\0\0\0\0\0\x03\0\0\0\x07\0\0\0\0\0\0\0\x05\0\0\0\x09\
+    \0\0\0\0\0\0\0\x03\0\0\0\0\0\0\0\0\0\0\0\x2c\
+    \x01\0\0\0\0\0\0\0\x02\0\0\0\0\0\0\0\x10\0\0\0\0\0\0\0\x03\0\0\0\0\0\0\0\x05\
+    \0\0\0\0\0\0\0\x2c\0\0\0\x01";
+
+/// That list with another byte at a place of these bodies.
+fn count_altered(alloc: Global, at: usize, byte: u8) -> Result<usize, Fault> {
+    let mut bodies = BODIES;
+    if at < 89 {
+        bodies[at] = byte;
+    }
+    count_listed(alloc, &[&bodies[..24], &bodies[24..44], &bodies[44..]])
+}
+
+const fn malformed(at: u64) -> Fault {
+    Fault::Malformed { file: ID, at }
+}
+
+const fn damaged(at: u64, kept: u64, found: u64) -> Fault {
+    Fault::Damaged {
+        file: ID,
+        at,
+        kept,
+        found,
+    }
+}
+
+/// The least number that is too great.
+const BEYOND: u64 = 1 << 62;
+
+#[test]
+fn altered_entries_are_refused(rt: HostRuntime) {
+    let alloc = rt.alloc();
+    assert!(rt; count_altered(alloc, 0, 0) == Ok(2));
+    for (at, byte, fault) in [
+        // the first number: 0, and others than the handle's
+        (7, 0, malformed(0)),
+        (7, 2, malformed(0)),
+        (7, 4, malformed(0)),
+        (0, 0x40, damaged(0, BEYOND + 3, BEYOND)),
+        // the second number: 0, falling, twice, above the last one, too great
+        (19, 0, malformed(0)),
+        (19, 2, malformed(0)),
+        (19, 3, malformed(0)),
+        (19, 6, malformed(0)),
+        (12, 0x40, damaged(0, BEYOND + 5, BEYOND)),
+        // between the two, so that the footer has another last number
+        (19, 4, malformed(84)),
+        // sizes: 0, more than 2^24, and another than the sum has
+        (11, 0, malformed(0)),
+        (23, 0, malformed(0)),
+        (8, 1, malformed(0)),
+        (20, 1, malformed(0)),
+        (11, 8, malformed(84)),
+    ] {
+        assert!(rt;
+            count_altered(alloc, at, byte) == Err(fault),
+            "byte {at} is {byte}"
+        );
+    }
+}
+
+#[test]
+fn an_altered_index_or_footer_is_refused(rt: HostRuntime) {
+    let alloc = rt.alloc();
+    for (at, byte, fault) in [
+        // the first number in the index: 0, others than the footer's, too great
+        (31, 0, malformed(44)),
+        (31, 2, malformed(84)),
+        (31, 4, malformed(84)),
+        (24, 0x40, damaged(44, BEYOND + 3, BEYOND)),
+        // the block's offset and its length
+        (39, 1, malformed(44)),
+        (32, 0x40, damaged(44, BEYOND, BEYOND)),
+        (43, 43, malformed(44)),
+        (43, 45, malformed(44)),
+        // the format
+        (44, 0, malformed(84)),
+        (44, 2, malformed(84)),
+        // the count
+        (52, 0, malformed(84)),
+        (52, 1, malformed(84)),
+        (52, 3, malformed(84)),
+        (45, 0x40, damaged(84, BEYOND + 2, BEYOND)),
+        // the sum
+        (60, 15, malformed(84)),
+        (60, 17, malformed(84)),
+        (53, 0x40, damaged(84, BEYOND + 16, BEYOND)),
+        // the first number
+        (68, 2, malformed(84)),
+        (68, 4, malformed(84)),
+        (61, 0x40, damaged(84, BEYOND + 3, BEYOND)),
+        // the last number: below the handle's, below the last entry's, above it
+        (76, 2, malformed(84)),
+        (76, 4, malformed(0)),
+        (76, 6, malformed(84)),
+        (69, 0x40, damaged(84, BEYOND + 5, BEYOND)),
+        // the index: the frames of block and footer are no index, and 144 is 5 bytes before the end
+        (84, 0, damaged(0, 0, 1)),
+        (84, 84, damaged(84, 2, 1)),
+        (84, 144, damaged(144, 156, 149)),
+        (77, 0x40, damaged(84, BEYOND + 44, BEYOND)),
+        // the blocks
+        (88, 0, damaged(84, 2, 1)),
+        (88, 2, damaged(84, 2, 3)),
+    ] {
+        assert!(rt;
+            count_altered(alloc, at, byte) == Err(fault),
+            "byte {at} is {byte}"
+        );
+    }
+}
+
+/// How many entries are listed of a list whose entries have the size 1 and the numbers from 1 on, so many of them in a first block
+/// and so many in a second one.
+fn count_split(alloc: Global, first: u32, second: u32) -> Result<usize, Fault> {
+    let all = u64::from(first) + u64::from(second);
+    if all > 1_000 {
+        return Err(Fault::BadWords);
+    }
+    let mut entries = Vec::new(alloc);
+    for number in 0..all {
+        put_u64(number + 1, &mut entries)?;
+        put_u32(1, &mut entries)?;
+    }
+    let cut = 12 * first as usize;
+    if cut > entries.len() {
+        return Err(Fault::BadWords);
+    }
+    let (before, behind) = entries.split_at(cut);
+    let second_at = 12 * u64::from(first) + 20;
+    let index_at = 12 * all + 40;
+    let mut index = Vec::new(alloc);
+    put_u64(1, &mut index)?;
+    put_u64(0, &mut index)?;
+    put_u32(12 * first + 20, &mut index)?;
+    put_u64(u64::from(first) + 1, &mut index)?;
+    put_u64(second_at, &mut index)?;
+    put_u32(12 * second + 20, &mut index)?;
+    let mut footer = Vec::new(alloc);
+    footer.push(1)?;
+    for number in [all, all, 1, all, index_at] {
+        put_u64(number, &mut footer)?;
+    }
+    put_u32(2, &mut footer)?;
+    count_listed(alloc, &[before, behind, &index, &footer])
+}
+
+#[test]
+fn blocks_are_filled_in_order(rt: HostRuntime) {
+    let alloc = rt.alloc();
+    // 341 entries have 4,092 bytes, so that a block takes no more of them, and no fewer where another follows
+    for (first, second, answer) in [
+        (341, 1, Ok(342)),
+        (341, 341, Ok(682)),
+        (340, 1, Err(malformed(4_100))),
+        (1, 1, Err(malformed(32))),
+        (342, 1, Err(malformed(0))),
+        (341, 342, Err(malformed(4_112))),
+        // the second handle has the number 342, and the footer's last is 341
+        (341, 0, Err(malformed(4_192))),
+    ] {
+        assert!(rt;
+            count_split(alloc, first, second) == answer,
+            "{first} and {second}"
+        );
+    }
+}
+
+/// A footer of two entries of the numbers 3 and 5 with the sizes 7 and 9, with an index at this offset and one block.
+fn footer_of(index: u8) -> [u8; 45] {
+    let mut footer =
+        *b"\x01\0\0\0\0\0\0\0\x02\0\0\0\0\0\0\0\x10\0\0\0\0\0\0\0\x03\0\0\0\0\0\0\0\x05\
+        \0\0\0\0\0\0\0\0\0\0\0\x01";
+    footer[40] = index;
+    footer
+}
+
+const BLOCK_AND_A_BYTE: &[u8] = b"\0\0\0\0\0\0\0\x03\0\0\0\x07\0\0\0\0\0\0\0\x05\0\0\0\x09\0";
+
+/// The handle of an empty block, that of the block, and that of the block and a byte.
+const EMPTY: &[u8] = b"\0\0\0\0\0\0\0\x03\0\0\0\0\0\0\0\0\0\0\0\x14";
+
+const RIGHT: &[u8] = b"\0\0\0\0\0\0\0\x03\0\0\0\0\0\0\0\0\0\0\0\x2c";
+
+const LONG: &[u8] = b"\0\0\0\0\0\0\0\x03\0\0\0\0\0\0\0\0\0\0\0\x2d";
+
+const RIGHT_AND_A_BYTE: &[u8] = b"\0\0\0\0\0\0\0\x03\0\0\0\0\0\0\0\0\0\0\0\x2c\0";
+
+/// What the frames of one block, of an index and of a footer with the index at this offset give.
+fn count_one(alloc: Global, block: &[u8], index: &[u8], at: u8) -> Result<usize, Fault> {
+    let footer = footer_of(at);
+    count_listed(alloc, &[block, index, &footer])
+}
+
+/// What the frames of the block, of its index and of a footer of these bytes give.
+fn count_with_footer(alloc: Global, footer: &[u8]) -> Result<usize, Fault> {
+    count_listed(alloc, &[&BODIES[..24], RIGHT, footer])
+}
+
+#[test]
+fn frames_of_no_list_are_refused(rt: HostRuntime) {
+    let alloc = rt.alloc();
+    let right = &BODIES[..24];
+    for (what, block, index, offset, fault) in [
+        ("an empty block", b"".as_slice(), EMPTY, 20, malformed(0)),
+        (
+            "a byte behind a block",
+            BLOCK_AND_A_BYTE,
+            LONG,
+            45,
+            malformed(0),
+        ),
+        ("no handle", right, b"".as_slice(), 44, malformed(44)),
+        (
+            "a byte behind the index",
+            right,
+            RIGHT_AND_A_BYTE,
+            44,
+            malformed(44),
+        ),
+    ] {
+        assert!(rt;
+            count_one(alloc, block, index, offset) == Err(fault),
+            "{what}"
+        );
+    }
+    // a byte behind the footer: its frame begins at 84, and what is read as one begins at 85 and says 11,776 bytes
+    let mut footer = [0; 46];
+    footer[..45].copy_from_slice(&footer_of(44));
+    let seen = count_with_footer(alloc, &footer);
+    assert!(rt; seen == Err(damaged(85, 11_881, 150)));
 }

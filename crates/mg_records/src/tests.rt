@@ -1,6 +1,7 @@
 use super::*;
-use mg_disk::Files;
+use mg_disk::{DiskError, Files};
 use mg_memdisk::{MemFiles, MemSealed};
+use mg_sealed::Blocks;
 use mg_types::{Doc, Fault, FileId, Item, Key, Kind};
 use std::alloc::Global;
 use std::test::Fail;
@@ -165,6 +166,134 @@ fn no_more_blocks_are_read_than_are_wanted(rt: HostRuntime) -> Result<(), Fail> 
             let read = matches!(listed, Err(Fault::ReadFault));
             assert_eq!(rt; read, failing <= blocks, "block {failing} above {after}");
         }
+    }
+    Ok(())
+}
+
+/// A port that counts its reads and the bytes that they give.
+#[derive(Drop)]
+struct CountingFiles<F> {
+    files: F,
+    reads: u64,
+    bytes: u64,
+}
+
+impl<F> CountingFiles<F> {
+    fn new(files: F) -> CountingFiles<F> {
+        CountingFiles {
+            files,
+            reads: 0,
+            bytes: 0,
+        }
+    }
+
+    /// How many reads there were since the last call, and how many bytes they gave.
+    fn take_counts(&mut self) -> (u64, u64) {
+        let counts = (self.reads, self.bytes);
+        self.reads = 0;
+        self.bytes = 0;
+        counts
+    }
+}
+
+impl<F: Files> Blocks for CountingFiles<F> {}
+
+// Each call is one of the port below.
+impl<F: Files> Files for CountingFiles<F> {
+    type Draft = F::Draft;
+
+    type Sealed = F::Sealed;
+
+    ghost drafted = { F.drafted };
+
+    ghost told = { F.told };
+
+    ghost identity = { F.identity };
+
+    ghost faults = { λ port. F.faults port.files };
+
+    ghost bounded = { λ port. F.bounded port.files };
+
+    fn fresh(&mut self, alloc: Global) -> Result<F::Draft, DiskError> {
+        self.files.fresh(alloc)
+    }
+
+    fn append(
+        &mut self,
+        alloc: Global,
+        draft: &mut F::Draft,
+        bytes: &[u8],
+    ) -> Result<(), DiskError> {
+        self.files.append(alloc, draft, bytes)
+    }
+
+    fn seal(&mut self, alloc: Global, draft: F::Draft) -> Result<F::Sealed, DiskError> {
+        self.files.seal(alloc, draft)
+    }
+
+    fn len(&mut self, alloc: Global, file: &F::Sealed) -> Result<u64, DiskError> {
+        self.files.len(alloc, file)
+    }
+
+    fn read(
+        &mut self,
+        alloc: Global,
+        file: &F::Sealed,
+        at: u64,
+        buf: &mut [u8],
+    ) -> Result<usize, DiskError> {
+        self.reads = self.reads.saturating_add(1);
+        let read = self.files.read(alloc, file, at, buf)?;
+        self.bytes = self.bytes.saturating_add(read as u64);
+        Ok(read)
+    }
+
+    fn share(&self, alloc: Global, file: &F::Sealed) -> Result<F::Sealed, DiskError> {
+        self.files.share(alloc, file)
+    }
+
+    fn same(&self, a: &F::Sealed, b: &F::Sealed) -> bool {
+        self.files.same(a, b)
+    }
+
+    fn keeps(&self, file: &F::Sealed) -> bool {
+        self.files.keeps(file)
+    }
+}
+
+#[test]
+fn no_more_bytes_are_read_than_are_wanted(rt: HostRuntime) -> Result<(), Fail> {
+    let alloc = rt.alloc();
+    let mut writing = MemFiles::new(Vec::new(alloc));
+    let written = ten(alloc, &mut writing)?;
+    let sealed = written.sealed();
+    if sealed.len >= 1 << 62 {
+        return Err(Fault::BadWords)?;
+    }
+    let again = writing.share(alloc, &sealed.file)?;
+    let mut port = CountingFiles::new(writing);
+    let file = RecordFile::<MemSealed, Item>::load(alloc, &mut port, ID, again, sealed.len)?;
+    // the frames of the footer and of an index of three handles
+    assert_eq!(rt; port.take_counts(), (2, 65 + 80));
+    // frames of four records of 1,015 bytes, of four and of two
+    for (number, counts) in [
+        (9, (0, 0)),
+        (10, (1, 4_080)),
+        (89, (1, 4_080)),
+        (100, (1, 2_050)),
+    ] {
+        file.get(alloc, &mut port, number)?;
+        assert_eq!(rt; port.take_counts(), counts, "number {number}");
+    }
+    for (after, counts) in [
+        (9, (3, 10_210)),
+        (49, (3, 10_210)),
+        (50, (2, 6_130)),
+        (90, (1, 2_050)),
+        (100, (0, 0)),
+    ] {
+        file.scan(alloc, &mut port, after)?;
+        assert_eq!(rt; port.take_counts(), counts, "above {after}");
     }
     Ok(())
 }

@@ -2,6 +2,7 @@ use super::*;
 use mg_disk::Files;
 use mg_memdisk::{MemDraft, MemFiles, MemSealed};
 use mg_records::Record;
+use mg_sealed::{append_frame, seal_frames, start_frames};
 use mg_types::{Doc, Fault, FileId, Key, Kind};
 use std::alloc::Global;
 use std::test::Fail;
@@ -246,4 +247,227 @@ fn the_shortest_and_the_longest_document_pass(rt: HostRuntime) -> Result<(), Fai
     let third = segment.get(alloc, &mut port, 3)?;
     assert!(rt; third.is_some_and(|item| item.doc.is_none()));
     Ok(())
+}
+
+/// How many mutations are listed of the file of frames with these bodies, whose digests are right.
+fn count_listed(alloc: Global, bodies: &[&[u8]]) -> Result<usize, Fault> {
+    let mut port = MemFiles::new(Vec::new(alloc));
+    let mut writer = start_frames(alloc, &mut port)?;
+    for body in bodies {
+        if body.len() > 10_000 || writer.len() > 10_000 {
+            return Err(Fault::BadWords);
+        }
+        append_frame(alloc, &mut port, &mut writer, body)?;
+    }
+    let len = writer.len();
+    if len > 1 << 20 {
+        return Err(Fault::BadWords);
+    }
+    let file = seal_frames(alloc, &mut port, writer, ID)?;
+    let segment = Segment::load(alloc, &mut port, ID, file.file, len)?;
+    Ok(segment.scan(alloc, &mut port, 0)?.len())
+}
+
+/// The bodies of the worked segment's frames: the block from 0, the index from 32, the footer from 52.
+const BODIES: [u8; 97] =
+    *b"\0\0\0\0\0\0\0\x02\x01\x01b\0\0\0\x01y\0\0\0\0\0\0\0\x03\x01\x01a\0\0\0\x01z\
+    \0\0\0\0\0\0\0\x02\0\0\0\0\0\0\0\0\0\0\0\x34\
+    \x01\0\0\0\0\0\0\0\x02\0\0\0\0\0\0\0\x04\0\0\0\0\0\0\0\x02\0\0\0\0\0\0\0\x03\
+    \0\0\0\0\0\0\0\x34\0\0\0\x01";
+
+/// The worked segment with another byte at a place of these bodies.
+fn count_altered(alloc: Global, at: usize, byte: u8) -> Result<usize, Fault> {
+    let mut bodies = BODIES;
+    if at < 97 {
+        bodies[at] = byte;
+    }
+    count_listed(alloc, &[&bodies[..32], &bodies[32..52], &bodies[52..]])
+}
+
+const fn malformed(at: u64) -> Fault {
+    Fault::Malformed { file: ID, at }
+}
+
+const fn damaged(at: u64, kept: u64, found: u64) -> Fault {
+    Fault::Damaged {
+        file: ID,
+        at,
+        kept,
+        found,
+    }
+}
+
+/// The least number that is too great.
+const BEYOND: u64 = 1 << 62;
+
+#[test]
+fn altered_records_are_refused(rt: HostRuntime) {
+    let alloc = rt.alloc();
+    assert!(rt; count_altered(alloc, 0, 0) == Ok(2));
+    // another key: nothing tells of it but the digest
+    assert!(rt; count_altered(alloc, 10, b'c') == Ok(2));
+    for (at, byte, fault) in [
+        // the first number: 0, and others than the handle's
+        (7, 0, malformed(0)),
+        (7, 1, malformed(0)),
+        (7, 3, malformed(0)),
+        (0, 0x40, damaged(0, BEYOND + 2, BEYOND)),
+        // the second number: 0, falling, twice, above the last one, too great
+        (23, 0, malformed(0)),
+        (23, 1, malformed(0)),
+        (23, 2, malformed(0)),
+        (23, 4, malformed(0)),
+        (16, 0x40, damaged(0, BEYOND + 3, BEYOND)),
+        // no kind; a delete, so that the next number is 0x0000_0001_7900_0000
+        (8, 0, malformed(0)),
+        (8, 3, malformed(0)),
+        (8, 2, malformed(0)),
+        // a key without a byte; one of two, so that the document has 377 bytes; one that ends behind the block
+        (9, 0, malformed(0)),
+        (9, 2, malformed(0)),
+        (25, 250, malformed(0)),
+        (25, 251, malformed(0)),
+        // a document of 0 bytes, so that the next number begins with "y"; of 2, so that it is 769; of 1,048,577
+        (14, 0, damaged(0, 0x79 << 56, BEYOND)),
+        (14, 2, malformed(0)),
+        (12, 0x10, malformed(0)),
+        // the last document ends before and behind the block
+        (30, 0, malformed(0)),
+        (30, 2, malformed(0)),
+    ] {
+        assert!(rt;
+            count_altered(alloc, at, byte) == Err(fault),
+            "byte {at} is {byte}"
+        );
+    }
+}
+
+#[test]
+fn an_altered_index_or_footer_is_refused(rt: HostRuntime) {
+    let alloc = rt.alloc();
+    for (at, byte, fault) in [
+        // the first number in the index: 0, others than the footer's, too great
+        (39, 0, malformed(52)),
+        (39, 1, malformed(92)),
+        (39, 3, malformed(92)),
+        (32, 0x40, damaged(52, BEYOND + 2, BEYOND)),
+        // the block's offset and its length
+        (47, 1, malformed(52)),
+        (40, 0x40, damaged(52, BEYOND, BEYOND)),
+        (51, 51, malformed(52)),
+        (51, 53, malformed(52)),
+        // the format
+        (52, 0, malformed(92)),
+        (52, 2, malformed(92)),
+        // the count
+        (60, 0, malformed(92)),
+        (60, 1, malformed(92)),
+        (60, 3, malformed(92)),
+        (53, 0x40, damaged(92, BEYOND + 2, BEYOND)),
+        // the sum
+        (68, 3, malformed(92)),
+        (68, 5, malformed(92)),
+        (61, 0x40, damaged(92, BEYOND + 4, BEYOND)),
+        // the first number
+        (76, 1, malformed(92)),
+        (76, 3, malformed(92)),
+        (69, 0x40, damaged(92, BEYOND + 2, BEYOND)),
+        // the last number: below the handle's, below the last record's, above it
+        (84, 1, malformed(92)),
+        (84, 2, malformed(0)),
+        (84, 4, malformed(92)),
+        (77, 0x40, damaged(92, BEYOND + 3, BEYOND)),
+        // the index: the frames of block and footer are no index, and 150 is 7 bytes before the end
+        (92, 0, damaged(0, 0, 1)),
+        (92, 92, damaged(92, 2, 1)),
+        (92, 150, damaged(150, 162, 157)),
+        (85, 0x40, damaged(92, BEYOND + 52, BEYOND)),
+        // the blocks
+        (96, 0, damaged(92, 2, 1)),
+        (96, 2, damaged(92, 2, 3)),
+    ] {
+        assert!(rt;
+            count_altered(alloc, at, byte) == Err(fault),
+            "byte {at} is {byte}"
+        );
+    }
+}
+
+/// The footer of two records of the numbers 2 and 3 with the sizes 2, with an index at this offset, below 256, and so many blocks.
+fn footer_of(index: u8, blocks: u8) -> [u8; 45] {
+    let mut footer =
+        *b"\x01\0\0\0\0\0\0\0\x02\0\0\0\0\0\0\0\x04\0\0\0\0\0\0\0\x02\0\0\0\0\0\0\0\x03\
+        \0\0\0\0\0\0\0\0\0\0\0\0";
+    footer[40] = index;
+    footer[44] = blocks;
+    footer
+}
+
+const SECOND: &[u8] = b"\0\0\0\0\0\0\0\x02\x01\x01b\0\0\0\x01y";
+
+const THIRD: &[u8] = b"\0\0\0\0\0\0\0\x03\x01\x01a\0\0\0\x01z";
+
+const BOTH: &[u8] = b"\0\0\0\0\0\0\0\x02\x01\x01b\0\0\0\x01y\0\0\0\0\0\0\0\x03\x01\x01a\0\0\0\x01z";
+
+const BOTH_AND_A_BYTE: &[u8] =
+    b"\0\0\0\0\0\0\0\x02\x01\x01b\0\0\0\x01y\0\0\0\0\0\0\0\x03\x01\x01a\0\0\0\x01z\0";
+
+/// The handle of an empty block, that of `BOTH`, and that of a block of a byte more.
+const SHORT: &[u8] = b"\0\0\0\0\0\0\0\x02\0\0\0\0\0\0\0\0\0\0\0\x14";
+
+const RIGHT: &[u8] = b"\0\0\0\0\0\0\0\x02\0\0\0\0\0\0\0\0\0\0\0\x34";
+
+const LONG: &[u8] = b"\0\0\0\0\0\0\0\x02\0\0\0\0\0\0\0\0\0\0\0\x35";
+
+const RIGHT_AND_A_BYTE: &[u8] = b"\0\0\0\0\0\0\0\x02\0\0\0\0\0\0\0\0\0\0\0\x34\0";
+
+/// Two handles of blocks of 36 bytes each, the second with the number 3, or with 2.
+const TWO: &[u8] = b"\0\0\0\0\0\0\0\x02\0\0\0\0\0\0\0\0\0\0\0\x24\
+    \0\0\0\0\0\0\0\x03\0\0\0\0\0\0\0\x24\0\0\0\x24";
+
+const TWICE: &[u8] = b"\0\0\0\0\0\0\0\x02\0\0\0\0\0\0\0\0\0\0\0\x24\
+    \0\0\0\0\0\0\0\x02\0\0\0\0\0\0\0\x24\0\0\0\x24";
+
+/// What the frames of one block, of an index and of a footer with the index at this offset give.
+fn count_one(alloc: Global, block: &[u8], index: &[u8], at: u8) -> Result<usize, Fault> {
+    let footer = footer_of(at, 1);
+    count_listed(alloc, &[block, index, &footer])
+}
+
+/// What the frames of two blocks, of an index and of its footer give.
+fn count_two(alloc: Global, second: &[u8], index: &[u8]) -> Result<usize, Fault> {
+    let footer = footer_of(72, 2);
+    count_listed(alloc, &[SECOND, second, index, &footer])
+}
+
+#[test]
+fn frames_of_no_segment_are_refused(rt: HostRuntime) {
+    let alloc = rt.alloc();
+    for (what, block, index, at, fault) in [
+        ("an empty block", b"".as_slice(), SHORT, 20, malformed(0)),
+        (
+            "a byte behind a block",
+            BOTH_AND_A_BYTE,
+            LONG,
+            53,
+            malformed(0),
+        ),
+        ("no handle", BOTH, b"".as_slice(), 52, malformed(52)),
+        (
+            "a byte behind the index",
+            BOTH,
+            RIGHT_AND_A_BYTE,
+            52,
+            malformed(52),
+        ),
+    ] {
+        assert!(rt; count_one(alloc, block, index, at) == Err(fault), "{what}");
+    }
+    for (what, second, index, fault) in [
+        ("a block closed too early", THIRD, TWO, malformed(36)),
+        ("a block of the first's number", SECOND, TWO, malformed(36)),
+        ("a number twice in the index", SECOND, TWICE, malformed(72)),
+    ] {
+        assert!(rt; count_two(alloc, second, index) == Err(fault), "{what}");
+    }
 }
