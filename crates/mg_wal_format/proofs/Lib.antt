@@ -1,0 +1,10 @@
+pub mod ChainLaws
+pub mod FoundLaws
+pub mod FrontLaws
+pub mod LogLaws
+pub mod OpeningLaws
+pub mod OrderLaws
+pub mod PartsLaws
+pub mod ReadingLaws
+pub mod SpellingLaws
+pub mod TornLaws

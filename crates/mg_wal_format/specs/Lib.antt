@@ -1,0 +1,10 @@
+pub mod Chains
+pub mod Faults
+pub mod Heads
+pub mod Judging
+pub mod Logs
+pub mod Recovery
+pub mod Opening
+pub mod Records
+pub mod Spelling
+pub mod Torn
