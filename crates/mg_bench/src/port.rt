@@ -27,6 +27,7 @@ impl<F> CountingFiles<F> {
     }
 }
 
+// A block is read through `read`, so that what it takes is counted.
 impl<F: Files> Blocks for CountingFiles<F> {}
 
 // Each call is one of the port below.

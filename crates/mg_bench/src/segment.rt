@@ -41,6 +41,24 @@ pub fn get_from_segment(alloc: Global, count: u64, size: usize) -> Result<u64> {
     Ok(port.read.saturating_sub(before))
 }
 
+/// `get_from_segment` with one buffer that is lent for all blocks.
+pub fn get_lent_from_segment(alloc: Global, count: u64, size: usize) -> Result<u64> {
+    let mut port = CountingFiles::new(MemFiles::new(Vec::new(alloc)));
+    let segment = filled(alloc, &mut port, count, size)?;
+    let before = port.read;
+    let mut buffer = Vec::new(alloc);
+    for n in 0..count {
+        let number = n.wrapping_mul(7_919) % count + 1;
+        let item = segment
+            .get_with(alloc, &mut port, number, &mut buffer)?
+            .context("a number is not found")?;
+        if item.seq != number || item.doc.is_none() {
+            bail!("another document is found");
+        }
+    }
+    Ok(port.read.saturating_sub(before))
+}
+
 /// A segment of so many documents, numbered from 1.
 fn filled(alloc: Global, port: &mut Port, count: u64, size: usize) -> Result<Segment<MemSealed>> {
     let body = vec![in alloc; b'v'; size.min(MOST_BYTES)]?;

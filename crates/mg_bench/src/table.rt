@@ -2,6 +2,7 @@
 
 use crate::port::CountingFiles;
 use anyhow::{Context, Result, bail};
+use mg_bloom::HashedKey;
 use mg_memdisk::{MemDraft, MemFiles, MemSealed};
 use mg_table::{Table, TableWriter};
 use mg_types::{Entry, FileId, Key, Kind};
@@ -40,6 +41,25 @@ pub fn find_in_table(alloc: Global, count: u64, size: usize) -> Result<u64> {
         let number = n.wrapping_mul(7_919) % entries;
         let key = key_of(alloc, 2 * number, size)?;
         if table.find(alloc, &mut port, &key)?.is_none() {
+            bail!("a key is not found");
+        }
+    }
+    Ok(port.read.saturating_sub(before))
+}
+
+/// `find_in_table` with one buffer that is lent for all blocks.
+pub fn find_lent_in_table(alloc: Global, count: u64, size: usize) -> Result<u64> {
+    let mut port = CountingFiles::new(MemFiles::new(Vec::new(alloc)));
+    let entries = count.min(MOST_ENTRIES);
+    let table = filled(alloc, &mut port, entries, size)?;
+    let before = port.read;
+    let mut buffer = Vec::new(alloc);
+    for n in 0..count {
+        let number = n.wrapping_mul(7_919) % entries;
+        let key = key_of(alloc, 2 * number, size)?;
+        let hashed = HashedKey::new(key.bytes());
+        let found = table.find_hashed(alloc, &mut port, &key, &hashed, &mut buffer)?;
+        if found.is_none() {
             bail!("a key is not found");
         }
     }
