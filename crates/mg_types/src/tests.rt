@@ -9,17 +9,27 @@ fn letters(alloc: Global, count: usize) -> Result<Vec<u8>, Fail> {
 }
 
 #[test]
-fn keys_have_limits_and_an_order(rt: HostRuntime) -> Result<(), Fail> {
+fn keys_have_limits(rt: HostRuntime) -> Result<(), Fail> {
     let alloc = rt.alloc();
     assert!(rt; Key::new(alloc, b"")?.is_none());
     assert!(rt; Key::from_vec(letters(alloc, 251)?).is_none());
+    assert!(rt; Key::new(alloc, letters(alloc, 251)?.as_slice())?.is_none());
     let longest = letters(alloc, 250)?;
     let key = Key::new(alloc, longest.as_slice())?.ok_or("no key")?;
     assert_eq!(rt; key.copy(alloc)?.bytes(), longest.as_slice());
-    assert!(rt; Key::new(alloc, letters(alloc, 251)?.as_slice())?.is_none());
+    Ok(())
+}
+
+#[test]
+fn keys_are_ordered_by_their_bytes(rt: HostRuntime) -> Result<(), Fail> {
+    let alloc = rt.alloc();
     let short = Key::new(alloc, b"k")?.ok_or("no key")?;
+    let long = Key::new(alloc, b"kk")?.ok_or("no key")?;
     let later = Key::new(alloc, b"l")?.ok_or("no key")?;
-    assert!(rt; short < key && key < later && key == key.copy(alloc)?);
+    assert!(rt; short < long);
+    assert!(rt; long < later);
+    let again = long.copy(alloc)?;
+    assert!(rt; long == again);
     Ok(())
 }
 
