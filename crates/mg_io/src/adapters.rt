@@ -3,7 +3,7 @@
 ghost use Rattle.std.specs.Prelude.{◌≡◌, ◌<◌, ◌≤◌, length, IfOk, OnErr, OnOk};
 ghost use Rattle.std.specs.Io.{ReadsAtMost, WritesAtMost};
 ghost use Rattle.std.specs.Io.KnownBytes.{ReadConsumes, WriteAppends};
-ghost use Rattle.mg_faults.specs.Causes.{HasCause, kept_count, raised};
+ghost use Rattle.mg_faults.specs.Causes.{HasCause, CountsOnce, kept_count, raised};
 
 use crate::errors::IoError;
 use crate::traits::{Sink, Source};
@@ -50,7 +50,7 @@ impl<R: Read> Source for StdSource<R> {
         ensures bound { ReadsAtMost result buf.new }
         ensures bytes { ReadConsumes self.old.bytes self.new.bytes result buf.new }
         ensures cause { HasCause IoError.Failed (kept_count self.old.faults) (kept_count self.new.faults) result }
-        ensures kept { OnOk result (kept_count self.new.faults ≡ kept_count self.old.faults) }
+        ensures once { CountsOnce (kept_count self.old.faults) (kept_count self.new.faults) result }
         ensures good { OnOk result (self.new.faults ≡ self.old.faults) }
         ensures failed { OnErr result (self.new.faults ≡ raised self.old.faults 1) }
     {
@@ -105,7 +105,7 @@ impl<W: Write> Sink for StdSink<W> {
         ensures bytes { WriteAppends self.old.bytes self.new.bytes result bytes.now }
         ensures some { 0 < length bytes.now → IfOk result (λ count. 1 ≤ count) }
         ensures cause { HasCause IoError.Failed (kept_count self.old.faults) (kept_count self.new.faults) result }
-        ensures kept { OnOk result (kept_count self.new.faults ≡ kept_count self.old.faults) }
+        ensures once { CountsOnce (kept_count self.old.faults) (kept_count self.new.faults) result }
         ensures good { OnOk result (self.new.faults ≡ self.old.faults) }
         ensures failed { OnErr result (self.new.faults ≡ raised self.old.faults 1) }
     {

@@ -4,7 +4,7 @@ ghost use Rattle.std.specs.Prelude.{◌≡◌, ◌≤◌, ◌<◌, ◌↔◌, []
 ghost use Rattle.std.specs.Result.{IsErrOf};
 ghost use Rattle.std.specs.Io.{ReadsAtMost, WritesAtMost};
 ghost use Rattle.std.specs.Io.KnownBytes.{ReadConsumes, WriteAppends};
-ghost use Rattle.mg_faults.specs.Causes.{HasCause, kept_count};
+ghost use Rattle.mg_faults.specs.Causes.{HasCause, CountsOnce, kept_count};
 ghost use Rattle.mg_faults.specs.Calls.{no_calls, next_fails, after_call};
 ghost use Rattle.mg_io.specs.Fakes.{read_answer};
 
@@ -72,7 +72,7 @@ impl Source for MemSource {
         ensures bound { ReadsAtMost result buf.new }
         ensures bytes { ReadConsumes (Some self.old.left) (Some self.new.left) result buf.new }
         ensures cause { HasCause IoError.Failed (kept_count self.old.calls.faults) (kept_count self.new.calls.faults) result }
-        ensures kept { OnOk result (kept_count self.new.calls.faults ≡ kept_count self.old.calls.faults) }
+        ensures once { CountsOnce (kept_count self.old.calls.faults) (kept_count self.new.calls.faults) result }
 
         // It fails exactly where it is told to, and else gives all that it may.
         ensures exact { result ≡ read_answer self.old (length buf.old) }
@@ -136,7 +136,7 @@ impl Sink for MemSink {
         ensures some { 0 < length bytes.now → IfOk result (λ count. 1 ≤ count) }
         ensures bytes { WriteAppends (Some self.old.written) (Some self.new.written) result bytes.now }
         ensures cause { HasCause IoError.Failed (kept_count self.old.calls.faults) (kept_count self.new.calls.faults) result }
-        ensures kept { OnOk result (kept_count self.new.calls.faults ≡ kept_count self.old.calls.faults) }
+        ensures once { CountsOnce (kept_count self.old.calls.faults) (kept_count self.new.calls.faults) result }
 
         // It fails exactly where it is told to, and else takes the whole piece.
         ensures fails { IsErrOf result IoError.Failed ↔ IsTrue (next_fails self.old.calls) }

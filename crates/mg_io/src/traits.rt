@@ -3,7 +3,7 @@
 ghost use Rattle.std.specs.Prelude.{◌≡◌, ◌≤◌, ◌<◌, ℕ, List, Option, length, IfOk, OnOk};
 ghost use Rattle.std.specs.Io.{ReadsAtMost, WritesAtMost};
 ghost use Rattle.std.specs.Io.KnownBytes.{ReadConsumes, WriteAppends};
-ghost use Rattle.mg_faults.specs.Causes.{HasCause, last_count};
+ghost use Rattle.mg_faults.specs.Causes.{HasCause, CountsOnce, last_count};
 
 use crate::errors::IoError;
 
@@ -21,7 +21,7 @@ pub trait Source {
         ensures bound { ReadsAtMost result buf.new }
         ensures bytes { ReadConsumes (left self.old) (left self.new) result buf.new }
         ensures cause { HasCause IoError.Failed (faults self.old) (faults self.new) result }
-        ensures kept { OnOk result (faults self.new ≡ faults self.old) };
+        ensures once { CountsOnce (faults self.old) (faults self.new) result };
 
     /// The count stays at the last number of its type.
     ghost bounded: { (value : Self) → faults value ≤ last_count };
@@ -42,7 +42,7 @@ pub trait Sink {
         ensures some { 0 < length bytes.now → IfOk result (λ count. 1 ≤ count) }
         ensures bytes { WriteAppends (written self.old) (written self.new) result bytes.now }
         ensures cause { HasCause IoError.Failed (faults self.old) (faults self.new) result }
-        ensures kept { OnOk result (faults self.new ≡ faults self.old) };
+        ensures once { CountsOnce (faults self.old) (faults self.new) result };
 
     /// The count stays at the last number of its type.
     ghost bounded: { (value : Self) → faults value ≤ last_count };
