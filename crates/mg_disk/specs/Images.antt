@@ -37,6 +37,10 @@ pub record Sets (name : Name) (value : Option (List ℕ)) (old new : Image) : Ty
   pub at : new name ≡ value
   pub elsewhere : (other : Name) → other ≢ name → new other ≡ old other
 
+-- each other name stands for what it stood for
+abbrev pub KeepsOthers : Name → Image → Image → Type 0
+KeepsOthers name old new = (other : Name) → other ≢ name → new other ≡ old other
+
 -- The log has more bytes in this image: what it had there, and any bytes behind, up to so many in all.
 pub record Grows (name : Name) (most : ℕ) (old new : Image) : Type 0 where
   pub front : List ℕ

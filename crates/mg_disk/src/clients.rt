@@ -2,10 +2,10 @@
 //! bytes and read them again after a crash.
 
 ghost use Rattle.std.specs.Prelude.{◌≡◌, ◌<◌, ◌++◌, List, ℕ, None, Some, IfOk, OnOk, IsSome, IsSomeAnd, IsTrue, false};
-ghost use Rattle.mg_faults.specs.Causes.{HasCause, last_count};
+ghost use Rattle.mg_faults.specs.Causes.{CountsOnce, HasCause, last_count};
 ghost use Rattle.mg_disk.specs.Files.{ReadsAt};
 ghost use Rattle.mg_disk.specs.Hosts.{IsVolume};
-ghost use Rattle.mg_disk.specs.Images.{View, Appended};
+ghost use Rattle.mg_disk.specs.Images.{View, Appended, KeepsOthers};
 ghost use Rattle.mg_disk.specs.Moments.{LeavesOnly, EachImage, Begins};
 ghost use Rattle.mg_types.specs.Names.{IsLogName};
 
@@ -25,9 +25,11 @@ pub fn append_and_sync<V: Volume>(
         (λ image. image (V.log_name log.old) ≡ (V.view volume.new).contents (V.log_name log.old))) }
     ensures contents { IsTrue V.tells → OnOk result ((found : List ℕ) × ((V.view volume.old).contents (V.log_name log.old) ≡ Some found)
         × ((V.view volume.new).contents (V.log_name log.old) ≡ Some (found ++ bytes.now))) }
+    ensures others { IsTrue V.tells → KeepsOthers (V.log_name log.old) (V.view volume.old).contents (V.view volume.new).contents }
     ensures named { V.log_name log.new ≡ V.log_name log.old }
     ensures open { IsTrue (V.in_writing volume.new log.new) }
     ensures cause { HasCause DiskError.Failed (V.faults volume.old) (V.faults volume.new) result }
+    ensures once { CountsOnce (V.faults volume.old) (V.faults volume.new) result }
 {
     volume.append(alloc, log, bytes)?;
     volume.sync(alloc, log)
@@ -50,6 +52,7 @@ pub fn append_behind<V: Volume>(
     ensures named { V.log_name log.new ≡ V.log_name log.old }
     ensures open { IsTrue (V.in_writing volume.new log.new) }
     ensures cause { HasCause DiskError.Failed (V.faults volume.old) (V.faults volume.new) result }
+    ensures once { CountsOnce (V.faults volume.old) (V.faults volume.new) result }
 {
     volume.append(alloc, log, bytes)
 }
@@ -70,6 +73,8 @@ pub fn read_found<H: Host>(
         → IfOk result (λ found. IsSomeAnd found (λ count. ReadsAt log 0 buf.old buf.new count)) }
     ensures absent { IsTrue H.Vol.tells → (vol : H.Vol) → (H.state host.old).inside n ≡ Some vol → (H.Vol.view vol).contents name ≡ None
         → IfOk result (λ found. found ≡ None) }
+    ensures keeps { IsTrue H.Vol.tells → (before after : H.Vol) → (H.state host.old).inside n ≡ Some before
+        → (H.state host.new).inside n ≡ Some after → (H.Vol.view after).contents ≡ (H.Vol.view before).contents }
     ensures back { (H.state host.new).out n ≡ false }
     ensures cause { (H.state host.new).lent_faults n < last_count → HasCause DiskError.Failed (H.faults host.old) (H.faults host.new) result }
 {
@@ -90,7 +95,9 @@ fn read_if_there<V: Volume>(
     ensures bytes { IsTrue V.tells → (log : List ℕ) → (V.view volume.old).contents name ≡ Some log
         → IfOk result (λ found. IsSomeAnd found (λ count. ReadsAt log 0 buf.old buf.new count)) }
     ensures absent { IsTrue V.tells → (V.view volume.old).contents name ≡ None → IfOk result (λ found. found ≡ None) }
+    ensures keeps { IsTrue V.tells → (V.view volume.new).contents ≡ (V.view volume.old).contents }
     ensures cause { HasCause DiskError.Failed (V.faults volume.old) (V.faults volume.new) result }
+    ensures once { CountsOnce (V.faults volume.old) (V.faults volume.new) result }
 {
     let names = volume.names(alloc)?;
     if !names.contains(&name) {
@@ -115,6 +122,8 @@ pub fn store_log<H: Host>(
         → EachImage (H.Vol.view vol) (λ image. image name ≡ Some bytes.now)) }
     ensures taken { IsTrue H.Vol.tells → IfOk result (λ made. made ≡ false → (vol : H.Vol) → (H.state host.old).inside n ≡ Some vol
         → IsSome ((H.Vol.view vol).contents name)) }
+    ensures others { IsTrue H.Vol.tells → (before after : H.Vol) → (H.state host.old).inside n ≡ Some before
+        → (H.state host.new).inside n ≡ Some after → KeepsOthers name (H.Vol.view before).contents (H.Vol.view after).contents }
     ensures back { (H.state host.new).out n ≡ false }
     ensures cause { (H.state host.new).lent_faults n < last_count → HasCause DiskError.Failed (H.faults host.old) (H.faults host.new) result }
 {
@@ -134,7 +143,9 @@ fn store_if_free<V: Volume>(
     requires { IsLogName name }
     ensures stored { IsTrue V.tells → IfOk result (λ made. IsTrue made → EachImage (V.view volume.new) (λ image. image name ≡ Some bytes.now)) }
     ensures taken { IsTrue V.tells → IfOk result (λ made. made ≡ false → IsSome ((V.view volume.old).contents name)) }
+    ensures others { IsTrue V.tells → KeepsOthers name (V.view volume.old).contents (V.view volume.new).contents }
     ensures cause { HasCause DiskError.Failed (V.faults volume.old) (V.faults volume.new) result }
+    ensures once { CountsOnce (V.faults volume.old) (V.faults volume.new) result }
 {
     if volume.names(alloc)?.contains(&name) {
         return Ok(false);

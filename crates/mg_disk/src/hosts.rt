@@ -1,7 +1,7 @@
 //! The host: it lends volumes and ports, and keeps the settings.
 
 ghost use Rattle.std.specs.Prelude.{◌≡◌, ◌≤◌, ◌⊎◌, ◌<◌, ◌-◌, ℕ, Bool, true, false, List, Option, None, Some, IfOk, OnOk, OnErr, IsTrue, option_map};
-ghost use Rattle.mg_faults.specs.Causes.{HasCause, raised, last_count};
+ghost use Rattle.mg_faults.specs.Causes.{HasCause, CountsOnce, raised, last_count};
 ghost use Rattle.mg_disk.specs.Hosts.{HostState, IsVolume, Lent, GivenBack, HasFound, HasVolumes};
 ghost use Rattle.mg_disk.specs.Images.{Settled};
 
@@ -24,7 +24,8 @@ pub trait Host {
     fn settings(&mut self, alloc: Global) -> Result<Option<Vec<u8>>, DiskError>
         ensures settings { IsTrue Self.Vol.tells → IfOk result (λ found. option_map (λ bytes. bytes.items) found ≡ (state self.old).settings) }
         ensures same { state self.new ≡ state self.old }
-        ensures cause { HasCause DiskError.Failed (faults self.old) (faults self.new) result };
+        ensures cause { HasCause DiskError.Failed (faults self.old) (faults self.new) result }
+        ensures once { CountsOnce (faults self.old) (faults self.new) result };
 
     /// Lends volume n, after all that was found in it was made lasting.
     fn volume(&mut self, alloc: Global, n: u16) -> Result<Self::Vol, DiskError>
@@ -35,7 +36,8 @@ pub trait Host {
         ensures settled { IsTrue Self.Vol.tells → IfOk result (λ vol. Settled (Self.Vol.view vol) (Self.Vol.in_writing vol)) }
         ensures writing { IfOk result (λ vol. (log : Self.Vol.Log) → Self.Vol.in_writing vol log ≡ false) }
         ensures same { OnErr result (state self.new ≡ state self.old) }
-        ensures cause { HasCause DiskError.Failed (faults self.old) (faults self.new) result };
+        ensures cause { HasCause DiskError.Failed (faults self.old) (faults self.new) result }
+        ensures once { CountsOnce (faults self.old) (faults self.new) result };
 
     /// Takes volume n back. What its count rose by while it was out is added to the host's.
     fn give_back(&mut self, n: u16, vol: Self::Vol)
@@ -47,7 +49,8 @@ pub trait Host {
     fn files(&mut self, alloc: Global) -> Result<<Self::Vol as Volume>::Port, DiskError>
         ensures fresh { IfOk result (λ port. Self.Vol.Port.faults port ≡ 0) }
         ensures same { state self.new ≡ state self.old }
-        ensures cause { HasCause DiskError.Failed (faults self.old) (faults self.new) result };
+        ensures cause { HasCause DiskError.Failed (faults self.old) (faults self.new) result }
+        ensures once { CountsOnce (faults self.old) (faults self.new) result };
 
     /// Takes a port back. Its count is added to the host's.
     fn give_port(&mut self, port: <Self::Vol as Volume>::Port)

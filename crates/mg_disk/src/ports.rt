@@ -1,7 +1,7 @@
 //! Ports: sealed files, written once and read by any thread.
 
 ghost use Rattle.std.specs.Prelude.{◌≡◌, ℕ, ◌≤◌, List, [], Option, None, Some, length, IfOk, OnOk, OnErr, IfSome, IsErrOf, IsTrue};
-ghost use Rattle.mg_faults.specs.Causes.{HasCause, last_count};
+ghost use Rattle.mg_faults.specs.Causes.{HasCause, CountsOnce, last_count};
 ghost use Rattle.mg_disk.specs.Files.{extended, IsFront, ReadsAt};
 
 use crate::DiskError;
@@ -32,7 +32,8 @@ pub trait Files: Drop {
     /// An empty draft.
     fn fresh(&mut self, alloc: Global) -> Result<Self::Draft, DiskError>
         ensures empty { IfOk result (λ draft. IfSome (drafted draft) (λ bytes. bytes ≡ [])) }
-        ensures cause { HasCause DiskError.Failed (faults self.old) (faults self.new) result };
+        ensures cause { HasCause DiskError.Failed (faults self.old) (faults self.new) result }
+        ensures once { CountsOnce (faults self.old) (faults self.new) result };
 
     /// Puts bytes behind the draft's. After an error a front of them was appended.
     fn append(
@@ -43,17 +44,20 @@ pub trait Files: Drop {
     ) -> Result<(), DiskError>
         ensures appended { OnOk result (drafted draft.new ≡ extended (drafted draft.old) bytes.now) }
         ensures part { OnErr result ((front : List ℕ) × IsFront front bytes.now × (drafted draft.new ≡ extended (drafted draft.old) front)) }
-        ensures cause { HasCause DiskError.Failed (faults self.old) (faults self.new) result };
+        ensures cause { HasCause DiskError.Failed (faults self.old) (faults self.new) result }
+        ensures once { CountsOnce (faults self.old) (faults self.new) result };
 
     /// The draft as a file that never changes, synced. After an error the draft is gone.
     fn seal(&mut self, alloc: Global, draft: Self::Draft) -> Result<Self::Sealed, DiskError>
         ensures sealed { IfOk result (λ file. told file ≡ drafted draft) }
-        ensures cause { HasCause DiskError.Failed (faults self.old) (faults self.new) result };
+        ensures cause { HasCause DiskError.Failed (faults self.old) (faults self.new) result }
+        ensures once { CountsOnce (faults self.old) (faults self.new) result };
 
     /// The file's length in bytes.
     fn len(&mut self, alloc: Global, file: &Self::Sealed) -> Result<u64, DiskError>
         ensures len { IfOk result (λ len. IfSome (told file.now) (λ bytes. len ≡ length bytes)) }
-        ensures cause { HasCause DiskError.Failed (faults self.old) (faults self.new) result };
+        ensures cause { HasCause DiskError.Failed (faults self.old) (faults self.new) result }
+        ensures once { CountsOnce (faults self.old) (faults self.new) result };
 
     /// Reads from that offset on: as many bytes as `buf` has room for and the file has. Answers how many.
     fn read(
@@ -65,7 +69,8 @@ pub trait Files: Drop {
     ) -> Result<usize, DiskError>
         ensures bound { IfOk result (λ count. count ≤ length buf.old) }
         ensures bytes { IfOk result (λ count. IfSome (told file.now) (λ bytes. ReadsAt bytes at buf.old buf.new count)) }
-        ensures cause { HasCause DiskError.Failed (faults self.old) (faults self.new) result };
+        ensures cause { HasCause DiskError.Failed (faults self.old) (faults self.new) result }
+        ensures once { CountsOnce (faults self.old) (faults self.new) result };
 
     /// The same file once more. It calls no device, and its only error is `NoMemory`.
     fn share(&self, alloc: Global, file: &Self::Sealed) -> Result<Self::Sealed, DiskError>

@@ -5,7 +5,7 @@ ghost use Rattle.std.specs.List.{Contains};
 ghost use Rattle.std.specs.List.Sorted.{IsStrictlySortedBy};
 ghost use Rattle.mg_types.specs.declared.names.Name.{Name};
 ghost use Rattle.mg_types.specs.Names.{IsFileName, IsLogName};
-ghost use Rattle.mg_faults.specs.Causes.{HasCause, last_count};
+ghost use Rattle.mg_faults.specs.Causes.{HasCause, CountsOnce, last_count};
 ghost use Rattle.mg_disk.specs.Files.{ReadsAt, found_bytes};
 ghost use Rattle.mg_disk.specs.Images.{Image, View, HoldsBytes, Stays, NameSet, NameInDoubt, Appended, AppendFailed, Synced};
 ghost use Rattle.mg_disk.specs.Names.{KeepsEach};
@@ -51,7 +51,8 @@ pub trait Volume: Drop {
         ensures stays { IsTrue tells → Stays (view self.old) (view self.new) }
         ensures writing { (log : Self.Log) → in_writing self.new log ≡ in_writing self.old log }
         ensures standing { (name : Name) → stands_for self.new name ≡ stands_for self.old name }
-        ensures cause { HasCause DiskError.Failed (faults self.old) (faults self.new) result };
+        ensures cause { HasCause DiskError.Failed (faults self.old) (faults self.new) result }
+        ensures once { CountsOnce (faults self.old) (faults self.new) result };
 
     /// The file under a name; None where there is no such name.
     fn find_file(
@@ -67,7 +68,8 @@ pub trait Volume: Drop {
         ensures same { OnErr result (stands_for self.new name ≡ stands_for self.old name) }
         ensures keeps { IsTrue tells → KeepsEach (stands_for self.old) (stands_for self.new) }
         ensures standing { (other : Name) → other ≢ name → stands_for self.new other ≡ stands_for self.old other }
-        ensures cause { HasCause DiskError.Failed (faults self.old) (faults self.new) result };
+        ensures cause { HasCause DiskError.Failed (faults self.old) (faults self.new) result }
+        ensures once { CountsOnce (faults self.old) (faults self.new) result };
 
     /// Lets the name stand for the file, also after a crash. After an error it may, and after a crash it may or not,
     /// until the name is changed again. A file that has other names keeps them.
@@ -84,7 +86,8 @@ pub trait Volume: Drop {
         ensures writing { (log : Self.Log) → in_writing self.new log ≡ in_writing self.old log }
         ensures given { OnOk result (stands_for self.new name ≡ Some (Self.Port.identity file.now)) }
         ensures standing { (other : Name) → other ≢ name → stands_for self.new other ≡ stands_for self.old other }
-        ensures cause { HasCause DiskError.Failed (faults self.old) (faults self.new) result };
+        ensures cause { HasCause DiskError.Failed (faults self.old) (faults self.new) result }
+        ensures once { CountsOnce (faults self.old) (faults self.new) result };
 
     /// Takes the name away, also after a crash; an absent name is Ok. After an error it may be gone, and after a crash it may
     /// be gone or not, until the name is changed again.
@@ -95,7 +98,8 @@ pub trait Volume: Drop {
         ensures standing { (other : Name) → other ≢ name → stands_for self.new other ≡ stands_for self.old other }
         ensures gone { OnOk result (stands_for self.new name ≡ None) }
         ensures still { OnErr result ((stands_for self.new name ≡ stands_for self.old name) ⊎ (stands_for self.new name ≡ None)) }
-        ensures cause { HasCause DiskError.Failed (faults self.old) (faults self.new) result };
+        ensures cause { HasCause DiskError.Failed (faults self.old) (faults self.new) result }
+        ensures once { CountsOnce (faults self.old) (faults self.new) result };
 
     /// Whether the name is known to stand for a file of the same bytes. It is true for a file that this volume adopted
     /// under that name or gave for it, and for its shares, while the name stands.
@@ -114,7 +118,8 @@ pub trait Volume: Drop {
         ensures opens { IfOk result (λ log. IsTrue (in_writing self.new log)) }
         ensures writing { (log : Self.Log) → log_name log ≢ name → in_writing self.new log ≡ in_writing self.old log }
         ensures standing { (other : Name) → other ≢ name → stands_for self.new other ≡ stands_for self.old other }
-        ensures cause { HasCause DiskError.Failed (faults self.old) (faults self.new) result };
+        ensures cause { HasCause DiskError.Failed (faults self.old) (faults self.new) result }
+        ensures once { CountsOnce (faults self.old) (faults self.new) result };
 
     /// Puts bytes behind the log's. After an error a front of them was appended. Until a sync a crash may leave the log
     /// shorter, and any bytes behind what was synced.
@@ -126,7 +131,8 @@ pub trait Volume: Drop {
         ensures open { IsTrue (in_writing self.new log.new) }
         ensures writing { (other : Self.Log) → log_name other ≢ log_name log.old → in_writing self.new other ≡ in_writing self.old other }
         ensures standing { (name : Name) → stands_for self.new name ≡ stands_for self.old name }
-        ensures cause { HasCause DiskError.Failed (faults self.old) (faults self.new) result };
+        ensures cause { HasCause DiskError.Failed (faults self.old) (faults self.new) result }
+        ensures once { CountsOnce (faults self.old) (faults self.new) result };
 
     /// Makes the log lasting: from Ok on, a crash leaves at least what it has now.
     fn sync(&mut self, alloc: Global, log: &mut Self::Log) -> Result<(), DiskError>
@@ -137,7 +143,8 @@ pub trait Volume: Drop {
         ensures open { IsTrue (in_writing self.new log.new) }
         ensures writing { (other : Self.Log) → log_name other ≢ log_name log.old → in_writing self.new other ≡ in_writing self.old other }
         ensures standing { (name : Name) → stands_for self.new name ≡ stands_for self.old name }
-        ensures cause { HasCause DiskError.Failed (faults self.old) (faults self.new) result };
+        ensures cause { HasCause DiskError.Failed (faults self.old) (faults self.new) result }
+        ensures once { CountsOnce (faults self.old) (faults self.new) result };
 
     /// The length in bytes of the log under a name.
     fn log_len(&mut self, alloc: Global, name: Name) -> Result<u64, DiskError>
@@ -147,7 +154,8 @@ pub trait Volume: Drop {
         ensures stays { IsTrue tells → Stays (view self.old) (view self.new) }
         ensures writing { (log : Self.Log) → in_writing self.new log ≡ in_writing self.old log }
         ensures standing { (name : Name) → stands_for self.new name ≡ stands_for self.old name }
-        ensures cause { HasCause DiskError.Failed (faults self.old) (faults self.new) result };
+        ensures cause { HasCause DiskError.Failed (faults self.old) (faults self.new) result }
+        ensures once { CountsOnce (faults self.old) (faults self.new) result };
 
     /// Reads the log under a name from that offset on, as `Files::read` does.
     fn read_log(
@@ -164,7 +172,8 @@ pub trait Volume: Drop {
         ensures stays { IsTrue tells → Stays (view self.old) (view self.new) }
         ensures writing { (log : Self.Log) → in_writing self.new log ≡ in_writing self.old log }
         ensures standing { (name : Name) → stands_for self.new name ≡ stands_for self.old name }
-        ensures cause { HasCause DiskError.Failed (faults self.old) (faults self.new) result };
+        ensures cause { HasCause DiskError.Failed (faults self.old) (faults self.new) result }
+        ensures once { CountsOnce (faults self.old) (faults self.new) result };
 
     /// A crash may leave what reads give.
     ghost may_leave_contents: { IsTrue tells → (volume : Self) → (view volume).may_leave (view volume).contents };

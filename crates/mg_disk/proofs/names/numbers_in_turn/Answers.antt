@@ -3,8 +3,8 @@ use Rattle.mg_types.specs.Names.{kind_code}
 use Rattle.mg_types.specs.declared.names.Name.{Name}
 use Rattle.mg_types.specs.declared.names.Kind.TheVariants.{Table}
 use Rattle.mg_disk.proofs.NameLaws.{numbers_one, numbers_none}
-use Rattle.mg_disk.proofs.names.numbers.Goals as goal
-use Rattle.mg_disk.proofs.names.numbers.Goals.{then-eq+in_ok-push, else-eq}
+use Rattle.mg_disk.proofs.names.numbers_in_turn.Goals as goal
+use Rattle.mg_disk.proofs.names.numbers_in_turn.Goals.{then-eq+in_ok-push, else-eq}
 
 none : Name
 none = record { kind = Table; number = 0 }
