@@ -3,6 +3,7 @@ pub mod EntryLaws
 pub mod Leaving
 pub mod Listed
 pub mod Picking
+pub mod PieceLaws
 pub mod Pushed
 pub mod Slots
 pub mod StandingLaws

@@ -147,8 +147,8 @@ on_file v l name o same is = is ∙ ap (λ (i : Image). i name) (all_from v l sa
 pub on_names : {E : Type 0} (v : MemVolume) (l : List Event) (r : Result (Vec Name Global) E) → l ≡ v.events.items → IfOk r (λ names. (n : Name) → Contains names.items n ↔ IsSome (fold held nothing l n)) → IfOk r (λ names. (n : Name) → Contains names.items n ↔ IsSome ((mem_view v).contents n))
 on_names v l r same all = subst (λ (i : Image). IfOk r (λ names. (n : Name) → Contains names.items n ↔ IsSome (i n))) (all_from v l same) all
 
-pub on_log : {E : Type 0} (v : MemVolume) (l : List Event) (name : Name) (r : Result (Vec ℕ Global) E) → l ≡ v.events.items → IfOk r (λ log. IfSome (fold held nothing l name) (λ bytes. log.items ≡ bytes)) → IfOk r (λ log. IfSome ((mem_view v).contents name) (λ bytes. log.items ≡ bytes))
-on_log v l name r same all = subst (λ (i : Image). IfOk r (λ log. IfSome (i name) (λ bytes. log.items ≡ bytes))) (all_from v l same) all
+pub on_log : {T E : Type 0} (v : MemVolume) (l : List Event) (name : Name) (r : Result T E) (fits : T → List ℕ → Type 0) → l ≡ v.events.items → IfOk r (λ x. IfSome (fold held nothing l name) (λ bytes. fits x bytes)) → IfOk r (λ x. IfSome ((mem_view v).contents name) (λ bytes. fits x bytes))
+on_log v l name r fits same all = subst (λ (i : Image). IfOk r (λ x. IfSome (i name) (λ bytes. fits x bytes))) (all_from v l same) all
 
 -- where nothing happened since all that was found, a volume is at rest
 pub settled_of : (found : Image) (recent : List Event) → recent ≡ [] → Settled {L = MemLog} (view_of found recent) (λ log. fold opens (λ n. false) recent (mem_log_name log))

@@ -6,6 +6,7 @@ pub mod HostLaws
 pub mod Hosts
 pub mod Laws
 pub mod Optional
+pub mod Pieces
 pub mod Places
 pub mod SameNames
 pub mod Standings

@@ -2,7 +2,7 @@
 
 ghost use Rattle.std.specs.Prelude.{◌≡◌, ◌↔◌, IsErrOf, IsTrue};
 ghost use Rattle.mg_faults.specs.Calls.{next_fails, after_call};
-ghost use Rattle.mg_faults.specs.Causes.{HasCause, kept_count};
+ghost use Rattle.mg_faults.specs.Causes.{HasCause, CountsOnce, kept_count};
 
 use mg_disk::DiskError;
 use mg_faults::CallCounter;
@@ -13,6 +13,7 @@ pub fn count_call(calls: &mut CallCounter) -> Result<(), DiskError>
     ensures fails { IsErrOf result DiskError.Failed ↔ IsTrue (next_fails calls.old) }
     ensures memory { IsErrOf result DiskError.NoMemory → ⊥ }
     ensures cause { HasCause DiskError.Failed (kept_count calls.old.faults) (kept_count calls.new.faults) result }
+    ensures once { CountsOnce (kept_count calls.old.faults) (kept_count calls.new.faults) result }
 {
     if calls.count() {
         return Err(DiskError::Failed);

@@ -2,7 +2,7 @@
 
 ghost use Rattle.std.specs.Prelude.{◌≡◌, ◌≤◌, ◌↔◌, ◌++◌, ◌/◌, take, false, Some, List, [], ℕ, length, IfOk, OnOk, OnErr, IsErrOf, IsTrue};
 ghost use Rattle.mg_faults.specs.Calls.{no_calls, next_fails, after_call};
-ghost use Rattle.mg_faults.specs.Causes.{HasCause, kept_count};
+ghost use Rattle.mg_faults.specs.Causes.{HasCause, CountsOnce, kept_count};
 ghost use Rattle.mg_disk.specs.Files.{IsFront, ReadsAt};
 
 use crate::bytes::Bytes;
@@ -77,6 +77,7 @@ impl Files for MemFiles {
     fn fresh(&mut self, alloc: Global) -> Result<MemDraft, DiskError>
         ensures empty { IfOk result (λ draft. draft_bytes draft ≡ []) }
         ensures cause { HasCause DiskError.Failed (kept_count (port_calls self.old).faults) (kept_count (port_calls self.new).faults) result }
+        ensures once { CountsOnce (kept_count (port_calls self.old).faults) (kept_count (port_calls self.new).faults) result }
         ensures counted { port_calls self.new ≡ after_call (port_calls self.old) }
         ensures fails { IsErrOf result DiskError.Failed ↔ IsTrue (next_fails (port_calls self.old)) }
     {
@@ -93,6 +94,7 @@ impl Files for MemFiles {
         ensures half { IsErrOf result DiskError.Failed → draft_bytes draft.new ≡ draft_bytes draft.old ++ take (length bytes.now / 2) bytes.now }
         ensures short { IsErrOf result DiskError.NoMemory → draft_bytes draft.new ≡ draft_bytes draft.old }
         ensures cause { HasCause DiskError.Failed (kept_count (port_calls self.old).faults) (kept_count (port_calls self.new).faults) result }
+        ensures once { CountsOnce (kept_count (port_calls self.old).faults) (kept_count (port_calls self.new).faults) result }
         ensures counted { port_calls self.new ≡ after_call (port_calls self.old) }
         ensures fails { IsErrOf result DiskError.Failed → IsTrue (next_fails (port_calls self.old)) }
         ensures listed { OnOk result (next_fails (port_calls self.old) ≡ false) }
@@ -109,6 +111,7 @@ impl Files for MemFiles {
     fn seal(&mut self, alloc: Global, draft: MemDraft) -> Result<MemSealed, DiskError>
         ensures sealed { IfOk result (λ file. sealed_bytes file ≡ draft_bytes draft) }
         ensures cause { HasCause DiskError.Failed (kept_count (port_calls self.old).faults) (kept_count (port_calls self.new).faults) result }
+        ensures once { CountsOnce (kept_count (port_calls self.old).faults) (kept_count (port_calls self.new).faults) result }
         ensures counted { port_calls self.new ≡ after_call (port_calls self.old) }
         ensures fails { IsErrOf result DiskError.Failed ↔ IsTrue (next_fails (port_calls self.old)) }
     {
@@ -121,6 +124,7 @@ impl Files for MemFiles {
     fn len(&mut self, _: Global, file: &MemSealed) -> Result<u64, DiskError>
         ensures len { IfOk result (λ len. len ≡ length (sealed_bytes file.now)) }
         ensures cause { HasCause DiskError.Failed (kept_count (port_calls self.old).faults) (kept_count (port_calls self.new).faults) result }
+        ensures once { CountsOnce (kept_count (port_calls self.old).faults) (kept_count (port_calls self.new).faults) result }
         ensures counted { port_calls self.new ≡ after_call (port_calls self.old) }
         ensures fails { IsErrOf result DiskError.Failed ↔ IsTrue (next_fails (port_calls self.old)) }
     {
@@ -138,6 +142,7 @@ impl Files for MemFiles {
         ensures bound { IfOk result (λ count. count ≤ length buf.old) }
         ensures bytes { IfOk result (λ count. ReadsAt (sealed_bytes file.now) at buf.old buf.new count) }
         ensures cause { HasCause DiskError.Failed (kept_count (port_calls self.old).faults) (kept_count (port_calls self.new).faults) result }
+        ensures once { CountsOnce (kept_count (port_calls self.old).faults) (kept_count (port_calls self.new).faults) result }
         ensures counted { port_calls self.new ≡ after_call (port_calls self.old) }
         ensures fails { IsErrOf result DiskError.Failed ↔ IsTrue (next_fails (port_calls self.old)) }
     {

@@ -147,7 +147,7 @@ impl Host for MemHost {
     ghost use Rattle.mg_memdisk.specs.declared.volumes.MemLog.{MemLog};
     ghost use Rattle.mg_memdisk.specs.declared.volumes.MemVolume.{MemVolume};
     ghost use Rattle.mg_memdisk.specs.Volumes.{mem_view, mem_open, mem_log_name, mem_calls, mem_shows, IsSettled};
-    ghost use Rattle.mg_faults.specs.Causes.{HasCause, kept_count, raised};
+    ghost use Rattle.mg_faults.specs.Causes.{HasCause, CountsOnce, kept_count, raised};
     ghost use Rattle.mg_faults.proofs.CallLaws.{kept_is_bounded};
     ghost use Rattle.mg_memdisk.specs.HostLaws.{host_has_volumes};
     ghost use Rattle.mg_memdisk.specs.Files.{port_calls};
@@ -164,6 +164,7 @@ impl Host for MemHost {
         ensures same { mem_state self.new ≡ mem_state self.old }
         ensures memory { IsErrOf result DiskError.Failed → ⊥ }
         ensures cause { HasCause DiskError.Failed (host_faults self.old) (host_faults self.new) result }
+        ensures once { CountsOnce (host_faults self.old) (host_faults self.new) result }
         ensures counts { host_faults self.new ≡ host_faults self.old }
         ensures ports { host_ports self.new ≡ host_ports self.old }
     {
@@ -185,6 +186,7 @@ impl Host for MemHost {
         ensures lends { IsOk result }
         ensures same { OnErr result (mem_state self.new ≡ mem_state self.old) }
         ensures cause { HasCause DiskError.Failed (host_faults self.old) (host_faults self.new) result }
+        ensures once { CountsOnce (host_faults self.old) (host_faults self.new) result }
         ensures counts { host_faults self.new ≡ host_faults self.old }
         ensures ports { host_ports self.new ≡ host_ports self.old }
     {
@@ -211,6 +213,7 @@ impl Host for MemHost {
         ensures fresh { IfOk result (λ port. kept_count (port_calls port).faults ≡ 0) }
         ensures calls { IfOk result (λ port. (port_calls port).calls ≡ 0) }
         ensures cause { HasCause DiskError.Failed (host_faults self.old) (host_faults self.new) result }
+        ensures once { CountsOnce (host_faults self.old) (host_faults self.new) result }
         ensures failing { IfOk result (λ port. (port_calls port).failing ≡ first_failing (host_ports self.old)) }
         ensures ports { host_ports self.new ≡ drop 1 (host_ports self.old) }
     {

@@ -10,6 +10,7 @@ mod events;
 mod files;
 mod hosts;
 mod optional;
+mod pieces;
 mod replays;
 mod standings;
 mod volumes;
@@ -18,5 +19,7 @@ pub use files::{MemDraft, MemFiles, MemSealed};
 pub use hosts::MemHost;
 pub use volumes::{MemLog, MemVolume};
 
+#[cfg(test)]
+mod client_tests;
 #[cfg(test)]
 mod tests;

@@ -1,15 +1,17 @@
 //! What the names stand for after a list of events.
 
-ghost use Rattle.std.specs.Prelude.{◌≡◌, ◌≤◌, ◌↔◌, true, false, List, ℕ, IfOk, IfSome, IsSome, OnOk};
+ghost use Rattle.std.specs.Prelude.{◌≡◌, ◌≤◌, ◌↔◌, true, false, List, ℕ, length, IfOk, IfSome, IsSome, OnOk};
 ghost use Rattle.std.specs.Option.{option_copied};
 ghost use Rattle.std.specs.List.{Contains, fold};
 ghost use Rattle.std.specs.List.Sorted.{IsStrictlySortedBy};
 ghost use Rattle.mg_types.specs.declared.names.Name.{Name};
 ghost use Rattle.mg_disk.specs.Images.{Image};
 ghost use Rattle.mg_memdisk.specs.Events.{is_file, nothing, held, value_bytes, Lists};
+ghost use Rattle.mg_memdisk.specs.Pieces.{Takes, wanted_of};
 
 use crate::bytes::Bytes;
 use crate::events::Event;
+use crate::pieces::{Piece, Wanted};
 use mg_disk::Name;
 use std::alloc::{AllocError, Global};
 use std::collections::BTreeSet;
@@ -42,34 +44,74 @@ fn file_after<'a>(
     }
 }
 
-/// The bytes of the log under a name, and no bytes where there is no log.
-pub fn log_under(alloc: Global, events: &[Event], name: Name) -> Result<Vec<u8>, AllocError>
+/// The wanted bytes of the log under a name, and no bytes where there is no log. It goes once through all that happened, and
+/// copies nothing else.
+pub fn piece_under(
+    alloc: Global,
+    events: &[Event],
+    name: Name,
+    wanted: Wanted,
+) -> Result<Vec<u8>, AllocError>
     requires { is_file name ≡ false }
-    ensures { IfOk result (λ log. IfSome (fold held nothing events.now name) (λ bytes. log.items ≡ bytes)) }
+    ensures { IfOk result (λ piece. IfSome (fold held nothing events.now name) (λ bytes. piece.items ≡ wanted_of wanted bytes)) }
 {
-    let mut log = Vec::new(alloc);
+    let mut piece = Piece::new(alloc, wanted);
     for event in events {
-        log_after(&mut log, event, name)?;
+        piece_after(&mut piece, event, name, wanted)?;
     }
-    Ok(log)
+    Ok(piece.items)
 }
 
-// The log under a name after one event more.
-fn log_after(log: &mut Vec<u8>, event: &Event, name: Name) -> Result<(), AllocError>
+// The wanted bytes of the log under a name after one event more.
+fn piece_after(
+    piece: &mut Piece,
+    event: &Event,
+    name: Name,
+    wanted: Wanted,
+) -> Result<(), AllocError>
     requires { is_file name ≡ false }
-    ensures { OnOk result ((image : Image) → IfSome (image name) (λ bytes. log.old.items ≡ bytes) → IfSome (held image event.now name) (λ bytes. log.new.items ≡ bytes)) }
+    ensures { OnOk result ((image : Image) → IfSome (image name) (λ bytes. Takes wanted bytes piece.old) → IfSome (held image event.now name) (λ bytes. Takes wanted bytes piece.new)) }
 {
     match event {
         Event::Put(put, value) | Event::MayPut(put, value, true) if *put == name => {
-            log.clear();
-            if let Some(bytes) = value {
-                log.extend_from_slice(&bytes.items)?;
+            piece.restart(wanted);
+            match value {
+                Some(bytes) => piece.add(&bytes.items, wanted),
+                None => Ok(()),
             }
         }
-        Event::Append(to, bytes) if *to == name => log.extend_from_slice(&bytes.items)?,
-        _ => {}
+        Event::Append(to, bytes) if *to == name => piece.add(&bytes.items, wanted),
+        _ => Ok(()),
     }
-    Ok(())
+}
+
+/// The length of the log under a name, and 0 where there is no log. A length that passes its type can't come in memory, and
+/// would be want of it.
+pub fn len_under(events: &[Event], name: Name) -> Result<u64, AllocError>
+    requires { is_file name ≡ false }
+    ensures { IfOk result (λ len. IfSome (fold held nothing events.now name) (λ bytes. len ≡ length bytes)) }
+{
+    let mut len = 0;
+    for event in events {
+        len = len_after(len, event, name)?;
+    }
+    Ok(len)
+}
+
+// The length of the log under a name after one event more.
+fn len_after(len: u64, event: &Event, name: Name) -> Result<u64, AllocError>
+    requires { is_file name ≡ false }
+    ensures { IfOk result (λ after. (image : Image) → IfSome (image name) (λ bytes. len ≡ length bytes) → IfSome (held image event.now name) (λ bytes. after ≡ length bytes)) }
+{
+    match event {
+        Event::Put(put, value) | Event::MayPut(put, value, true) if *put == name => {
+            Ok(value.as_ref().map_or(0, |bytes| bytes.items.len() as u64))
+        }
+        Event::Append(to, bytes) if *to == name => {
+            len.checked_add(bytes.items.len() as u64).ok_or(AllocError)
+        }
+        _ => Ok(len),
+    }
 }
 
 /// All names that stand for something, in order.

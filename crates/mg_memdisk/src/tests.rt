@@ -107,6 +107,29 @@ fn read_all<V: Volume>(
     Ok(Some(volume.read_log(alloc, name, 0, buf)?))
 }
 
+// Reads a piece of a log, if it is there.
+fn read_piece<V: Volume>(
+    alloc: Global,
+    volume: &mut V,
+    name: Name,
+    at: u64,
+    buf: &mut [u8],
+) -> Result<Option<usize>, DiskError>
+    requires { IsLogName name }
+{
+    if !volume.names(alloc)?.contains(&name) {
+        return Ok(None);
+    }
+    Ok(Some(volume.read_log(alloc, name, at, buf)?))
+}
+
+// The bytes of a host's settings, told twice: None where they differ.
+fn settings_of<H: Host>(alloc: Global, host: &mut H) -> Result<Option<Option<Vec<u8>>>, DiskError> {
+    let first = host.settings(alloc)?;
+    let second = host.settings(alloc)?;
+    Ok(if first == second { Some(first) } else { None })
+}
+
 // Adopts a file, takes its name away again, and stores a log.
 fn fill<V: Volume>(
     alloc: Global,
@@ -208,6 +231,50 @@ fn a_host_gives_back_what_was_stored(rt: HostRuntime) -> Result<(), Fail> {
     assert_eq!(rt; buf, *b"synced! not\0");
     assert_eq!(rt; store_log(alloc, &mut host, 3, log, b"x"), Ok(false));
     assert_eq!(rt; store_log(alloc, &mut host, 3, next, b"x"), Ok(true));
+    Ok(())
+}
+
+// A log of six bytes and five behind them, which came in two appends.
+#[test]
+fn a_log_is_read_in_pieces(rt: HostRuntime) -> Result<(), Fail> {
+    let alloc = rt.alloc();
+    let log = Name {
+        kind: Kind::Wal,
+        number: 1,
+    };
+    let mut volume = MemVolume::new(alloc, Vec::new(alloc));
+    assert_eq!(rt;
+        store(alloc, &mut volume, log, b"synced", b", not"),
+        Ok(true)
+    );
+    assert_eq!(rt; len_of(alloc, &mut volume, log), Ok(Some(11)));
+    for (at, count, bytes) in [
+        (0, 4, *b"sync"),
+        (3, 4, *b"ced,"),
+        (4, 4, *b"ed, "),
+        (6, 4, *b", no"),
+        (9, 2, *b"ot--"),
+        (11, 0, *b"----"),
+        (u64::MAX, 0, *b"----"),
+    ] {
+        let mut buf = *b"----";
+        assert_eq!(rt;
+            read_piece(alloc, &mut volume, log, at, &mut buf),
+            Ok(Some(count))
+        );
+        assert_eq!(rt; buf, bytes);
+    }
+    Ok(())
+}
+
+#[test]
+fn a_host_tells_its_settings(rt: HostRuntime) -> Result<(), Fail> {
+    let alloc = rt.alloc();
+    let mut host = MemHost::new(alloc, Some(b"parts = 2".to_vec(alloc)?));
+    let told = settings_of(alloc, &mut host)?;
+    assert_eq!(rt; told, Some(Some(b"parts = 2".to_vec(alloc)?)));
+    let mut host = MemHost::new(alloc, None);
+    assert_eq!(rt; settings_of(alloc, &mut host)?, Some(None));
     Ok(())
 }
 

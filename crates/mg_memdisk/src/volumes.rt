@@ -4,13 +4,15 @@ ghost use Rattle.std.specs.Prelude.{◌≡◌, ◌≤◌, ◌↔◌, false, Some
 ghost use Rattle.std.specs.Option.{option_copied};
 ghost use Rattle.mg_memdisk.specs.Crashes.{are_open};
 ghost use Rattle.mg_memdisk.specs.Events.{is_file, value_bytes};
+ghost use Rattle.mg_memdisk.specs.Pieces.{wanted_of};
 
 use crate::bytes::Bytes;
 use crate::calls::count_call;
 use crate::crashes::image_left;
 use crate::events::Event;
 use crate::files::{MemFiles, MemSealed, read_at};
-use crate::replays::{file_under, log_under, names_in};
+use crate::pieces::Wanted;
+use crate::replays::{file_under, len_under, names_in, piece_under};
 use mg_disk::{DiskError, Name, SendVolume, Volume};
 use mg_faults::{CallCounter, FaultCount};
 use std::alloc::{AllocError, Global};
@@ -26,7 +28,7 @@ pub struct MemLog {
 ///
 /// It keeps all that ever happened to it, the bytes of removed files and logs too, since a crash at an earlier moment might
 /// have left them. An append takes time in proportion to its bytes; finding a file or reading a log goes once through all that
-/// happened.
+/// happened, and reading takes memory in proportion to what is read.
 #[derive(Drop)]
 pub struct MemVolume {
     events: Vec<Event>,
@@ -219,12 +221,20 @@ impl MemVolume {
         file_under(&self.events, name)
     }
 
-    // The bytes of the log under a name.
-    fn log(&self, alloc: Global, name: Name) -> Result<Vec<u8>, AllocError>
+    // The wanted bytes of the log under a name.
+    fn piece(&self, alloc: Global, name: Name, wanted: Wanted) -> Result<Vec<u8>, AllocError>
         requires { is_file name ≡ false }
-        ensures { IfOk result (λ log. IfSome ((mem_view self.now).contents name) (λ bytes. log.items ≡ bytes)) }
+        ensures { IfOk result (λ piece. IfSome ((mem_view self.now).contents name) (λ bytes. piece.items ≡ wanted_of wanted bytes)) }
     {
-        log_under(alloc, &self.events, name)
+        piece_under(alloc, &self.events, name, wanted)
+    }
+
+    // The length of the log under a name.
+    fn len_of_log(&self, name: Name) -> Result<u64, AllocError>
+        requires { is_file name ≡ false }
+        ensures { IfOk result (λ len. IfSome ((mem_view self.now).contents name) (λ bytes. len ≡ length bytes)) }
+    {
+        len_under(&self.events, name)
     }
 
     // All names, in order.
@@ -241,7 +251,7 @@ impl Volume for MemVolume {
     ghost use Rattle.std.specs.Prelude.{◌≡◌, ◌≢◌, ◌≤◌, ◌↔◌, ◌⊎◌, ◌/◌, take, Bool, true, false, ℕ, List, [], Option, None, Some, length, IfOk, OnOk, OnErr, IfSome, IsSome, IsErrOf, IsTrue, refl};
     ghost use Rattle.std.specs.List.{Contains};
     ghost use Rattle.std.specs.List.Sorted.{IsStrictlySortedBy};
-    ghost use Rattle.mg_faults.specs.Causes.{HasCause};
+    ghost use Rattle.mg_faults.specs.Causes.{HasCause, CountsOnce};
     ghost use Rattle.mg_types.specs.declared.names.Name.{Name};
     ghost use Rattle.mg_disk.specs.Files.{ReadsAt, found_bytes};
     ghost use Rattle.mg_disk.specs.Images.{Stays, NameSet, NameInDoubt, Appended, AppendFailed, Synced};
@@ -279,6 +289,7 @@ impl Volume for MemVolume {
         ensures writing { (other : Name) → mem_open self.new other ≡ mem_open self.old other }
         ensures standing { (other : Name) → mem_stands self.new other ≡ mem_stands self.old other }
         ensures cause { HasCause DiskError.Failed (kept_count (mem_calls self.old).faults) (kept_count (mem_calls self.new).faults) result }
+        ensures once { CountsOnce (kept_count (mem_calls self.old).faults) (kept_count (mem_calls self.new).faults) result }
         ensures counted { mem_calls self.new ≡ after_call (mem_calls self.old) }
         ensures fails { IsErrOf result DiskError.Failed ↔ IsTrue (next_fails (mem_calls self.old)) }
         ensures same { Untouched self.old self.new }
@@ -296,6 +307,7 @@ impl Volume for MemVolume {
         ensures keeps { KeepsEach (mem_stands self.old) (mem_stands self.new) }
         ensures standing { (other : Name) → mem_stands self.new other ≡ mem_stands self.old other }
         ensures cause { HasCause DiskError.Failed (kept_count (mem_calls self.old).faults) (kept_count (mem_calls self.new).faults) result }
+        ensures once { CountsOnce (kept_count (mem_calls self.old).faults) (kept_count (mem_calls self.new).faults) result }
         ensures counted { mem_calls self.new ≡ after_call (mem_calls self.old) }
         ensures fails { IsErrOf result DiskError.Failed ↔ IsTrue (next_fails (mem_calls self.old)) }
         ensures same { Untouched self.old self.new }
@@ -317,6 +329,7 @@ impl Volume for MemVolume {
         ensures standing { (other : Name) → other ≢ name → mem_stands self.new other ≡ mem_stands self.old other }
         ensures given { OnOk result (mem_stands self.new name ≡ Some (sealed_bytes file.now)) }
         ensures cause { HasCause DiskError.Failed (kept_count (mem_calls self.old).faults) (kept_count (mem_calls self.new).faults) result }
+        ensures once { CountsOnce (kept_count (mem_calls self.old).faults) (kept_count (mem_calls self.new).faults) result }
         ensures counted { mem_calls self.new ≡ after_call (mem_calls self.old) }
         ensures fails { IsErrOf result DiskError.Failed → IsTrue (next_fails (mem_calls self.old)) }
         ensures listed { OnOk result (next_fails (mem_calls self.old) ≡ false) }
@@ -341,6 +354,7 @@ impl Volume for MemVolume {
         ensures gone { OnOk result (mem_stands self.new name ≡ None) }
         ensures still { OnErr result ((mem_stands self.new name ≡ mem_stands self.old name) ⊎ (mem_stands self.new name ≡ None)) }
         ensures cause { HasCause DiskError.Failed (kept_count (mem_calls self.old).faults) (kept_count (mem_calls self.new).faults) result }
+        ensures once { CountsOnce (kept_count (mem_calls self.old).faults) (kept_count (mem_calls self.new).faults) result }
         ensures counted { mem_calls self.new ≡ after_call (mem_calls self.old) }
         ensures fails { IsErrOf result DiskError.Failed → IsTrue (next_fails (mem_calls self.old)) }
         ensures listed { OnOk result (next_fails (mem_calls self.old) ≡ false) }
@@ -372,6 +386,7 @@ impl Volume for MemVolume {
         ensures named { IfOk result (λ log. mem_log_name log ≡ name) }
         ensures opens { IfOk result (λ log. IsTrue (mem_open self.new (mem_log_name log))) }
         ensures cause { HasCause DiskError.Failed (kept_count (mem_calls self.old).faults) (kept_count (mem_calls self.new).faults) result }
+        ensures once { CountsOnce (kept_count (mem_calls self.old).faults) (kept_count (mem_calls self.new).faults) result }
         ensures counted { mem_calls self.new ≡ after_call (mem_calls self.old) }
         ensures fails { IsErrOf result DiskError.Failed → IsTrue (next_fails (mem_calls self.old)) }
         ensures listed { OnOk result (next_fails (mem_calls self.old) ≡ false) }
@@ -402,6 +417,7 @@ impl Volume for MemVolume {
         ensures writing { (other : Name) → mem_open self.new other ≡ mem_open self.old other }
         ensures standing { (other : Name) → mem_stands self.new other ≡ mem_stands self.old other }
         ensures cause { HasCause DiskError.Failed (kept_count (mem_calls self.old).faults) (kept_count (mem_calls self.new).faults) result }
+        ensures once { CountsOnce (kept_count (mem_calls self.old).faults) (kept_count (mem_calls self.new).faults) result }
         ensures counted { mem_calls self.new ≡ after_call (mem_calls self.old) }
         ensures fails { IsErrOf result DiskError.Failed → IsTrue (next_fails (mem_calls self.old)) }
         ensures listed { OnOk result (next_fails (mem_calls self.old) ≡ false) }
@@ -427,6 +443,7 @@ impl Volume for MemVolume {
         ensures writing { (other : Name) → mem_open self.new other ≡ mem_open self.old other }
         ensures standing { (other : Name) → mem_stands self.new other ≡ mem_stands self.old other }
         ensures cause { HasCause DiskError.Failed (kept_count (mem_calls self.old).faults) (kept_count (mem_calls self.new).faults) result }
+        ensures once { CountsOnce (kept_count (mem_calls self.old).faults) (kept_count (mem_calls self.new).faults) result }
         ensures counted { mem_calls self.new ≡ after_call (mem_calls self.old) }
         ensures fails { IsErrOf result DiskError.Failed ↔ IsTrue (next_fails (mem_calls self.old)) }
         ensures happened { OnOk result (Pushes (Sync (mem_log_name log.old)) self.old self.new) }
@@ -436,7 +453,7 @@ impl Volume for MemVolume {
         self.push(Event::Sync(log.name))
     }
 
-    fn log_len(&mut self, alloc: Global, name: Name) -> Result<u64, DiskError>
+    fn log_len(&mut self, _: Global, name: Name) -> Result<u64, DiskError>
         requires kind { IsLogName name }
         requires there { IsSome ((mem_view self.old).contents name) }
         ensures len { IfOk result (λ len. IfSome ((mem_view self.old).contents name) (λ bytes. len ≡ length bytes)) }
@@ -444,12 +461,13 @@ impl Volume for MemVolume {
         ensures writing { (other : Name) → mem_open self.new other ≡ mem_open self.old other }
         ensures standing { (other : Name) → mem_stands self.new other ≡ mem_stands self.old other }
         ensures cause { HasCause DiskError.Failed (kept_count (mem_calls self.old).faults) (kept_count (mem_calls self.new).faults) result }
+        ensures once { CountsOnce (kept_count (mem_calls self.old).faults) (kept_count (mem_calls self.new).faults) result }
         ensures counted { mem_calls self.new ≡ after_call (mem_calls self.old) }
         ensures fails { IsErrOf result DiskError.Failed ↔ IsTrue (next_fails (mem_calls self.old)) }
         ensures same { Untouched self.old self.new }
     {
         count_call(&mut self.calls)?;
-        Ok(self.log(alloc, name)?.len() as u64)
+        Ok(self.len_of_log(name)?)
     }
 
     fn read_log(
@@ -467,13 +485,15 @@ impl Volume for MemVolume {
         ensures writing { (other : Name) → mem_open self.new other ≡ mem_open self.old other }
         ensures standing { (other : Name) → mem_stands self.new other ≡ mem_stands self.old other }
         ensures cause { HasCause DiskError.Failed (kept_count (mem_calls self.old).faults) (kept_count (mem_calls self.new).faults) result }
+        ensures once { CountsOnce (kept_count (mem_calls self.old).faults) (kept_count (mem_calls self.new).faults) result }
         ensures counted { mem_calls self.new ≡ after_call (mem_calls self.old) }
         ensures fails { IsErrOf result DiskError.Failed ↔ IsTrue (next_fails (mem_calls self.old)) }
         ensures same { Untouched self.old self.new }
     {
         count_call(&mut self.calls)?;
-        let log = self.log(alloc, name)?;
-        Ok(read_at(&log, at, buf))
+        let most = buf.len();
+        let piece = self.piece(alloc, name, Wanted { at, most })?;
+        Ok(read_at(&piece, 0, buf))
     }
 
     ghost may_leave_contents = { λ tells volume. view_leaves_contents volume };
