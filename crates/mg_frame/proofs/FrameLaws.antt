@@ -10,7 +10,7 @@ use Rattle.sha2.specs.Sha256.{sha256, digest_bytes, final_hash, initial_hash_256
 use Rattle.sha2.proofs.Facts256.{length-sha256}
 use Rattle.mg_frame.specs.BigEndian.{AreBytes, big_endian, big_endian_value}
 use Rattle.mg_frame.proofs.BigEndianLaws.{length-big_endian, AreBytes-big_endian, big_endian_value-big_endian, big_endian_value-lt, front_back, same_from_value, AreBytes-take, AreBytes-drop, AreBytes-append}
-use Rattle.mg_frame.specs.Frame.{digest, covered, frame, said_length, said_number, said_digest, true_digest, compared, judged, taken, IsFrameAt, StandsAt, BeginsWithNone, NoFrame, Means, TakesWritten, EndsLog}
+use Rattle.mg_frame.specs.Frame.{digest, covered, frame, frame_header, said_length, said_number, said_digest, true_digest, compared, judged, taken, IsFrameAt, StandsAt, BeginsWithNone, NoFrame, Means, TakesWritten, EndsLog}
 use Rattle.mg_frame.specs.declared.frame.Taken.{Taken}
 use Rattle.mg_frame.specs.declared.frame.Taken.TheVariants.{Whole, End, Short, Number, Torn}
 
@@ -342,3 +342,16 @@ frame_built number body before after size_bytes number_bytes digest_bytes all bu
 pub appended_last : {T E : Type 0} (result : Result T E) (now was more : List ℕ) (P : Type 0) → now ≡ cond (is_ok result) (was ++ more) was → (now ≡ was ++ more → P) → OnOk result P
 appended_last (Ok x) now was more P is holds = holds is
 appended_last (Err e) now was more P is holds = tt
+
+frame_parts : (number : ℕ) (body : List ℕ) → covered number body ++ digest (covered number body) ≡ frame number body
+unfolding frame
+frame_parts number body = refl
+
+-- a header and a body behind some bytes, with their digest behind them, are the frame behind these bytes
+pub frame_ended : (start number : ℕ) (before body all ended digest_bytes : List ℕ) → length before ≡ start → all ≡ before ++ (frame_header number (length body) ++ body) → digest_bytes ≡ digest (drop start all)
+    → ended ≡ all ++ digest_bytes → ended ≡ before ++ frame number body
+unfolding covered
+frame_ended start number before body all ended digest_bytes at all_is digest_is ended_is =
+    let rest : drop start all ≡ covered number body = ap (drop start) all_is ∙ drop_at before (frame_header number (length body) ++ body) start at in
+    ended_is ∙ ap (λ xs. xs ++ digest_bytes) all_is ∙ append_assoc before (frame_header number (length body) ++ body) digest_bytes
+    ∙ ap (λ xs. before ++ (covered number body ++ xs)) (digest_is ∙ ap digest rest) ∙ ap (λ xs. before ++ xs) (frame_parts number body)

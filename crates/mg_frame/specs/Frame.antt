@@ -9,9 +9,13 @@ use Rattle.mg_frame.specs.declared.frame.Taken.TheVariants.{Whole, End, Short, N
 unfoldable pub digest : List ℕ → List ℕ
 digest bytes = take 8 (sha256 bytes)
 
--- what a frame's digest covers: the body's length in 4 bytes, the frame's number in 8, and the body
+-- what stands before a frame's body: how many bytes the body has, in 4 bytes, and the frame's number in 8
+abbrev pub frame_header : ℕ → ℕ → List ℕ
+frame_header number body_len = big_endian 4 body_len ++ big_endian 8 number
+
+-- what a frame's digest covers: the header and the body
 unfoldable pub covered : ℕ → List ℕ → List ℕ
-covered number body = big_endian 4 (length body) ++ big_endian 8 number ++ body
+covered number body = frame_header number (length body) ++ body
 
 -- the frame of a number and a body
 unfoldable pub frame : ℕ → List ℕ → List ℕ

@@ -1,8 +1,8 @@
 //! A frame is the body's length (4 bytes), the frame's number (8 bytes), the body, and the first 8 bytes of the SHA-256
 //! digest (FIPS 180-4) of all that. Numbers are big-endian.
 
-ghost use Rattle.std.specs.Prelude.{◌≡◌, ◌+◌, ◌++◌, ◌<◌, ◌≤◌, ◌^◌, length, OnOk, OnErr};
-ghost use Rattle.mg_frame.specs.Frame.{digest, frame, said_length, compared, judged, taken, Means, TakesWritten, EndsLog};
+ghost use Rattle.std.specs.Prelude.{◌≡◌, ◌+◌, ◌++◌, ◌<◌, ◌≤◌, ◌^◌, ℕ, List, length, IfOk, OnOk, OnErr};
+ghost use Rattle.mg_frame.specs.Frame.{digest, frame, frame_header, said_length, compared, judged, taken, Means, TakesWritten, EndsLog};
 
 use crate::fields::{front_u32, front_u64};
 use sha2::{Digest, Sha256};
@@ -60,6 +60,34 @@ pub fn put_frame(number: u64, body: &[u8], out: &mut Vec<u8>) -> Result<(), Allo
     out.extend_from_slice(&(body.len() as u32).to_be_bytes())?;
     out.extend_from_slice(&number.to_be_bytes())?;
     out.extend_from_slice(body)?;
+    let digest = digest(&out[start..]);
+    out.extend_from_slice(&digest)
+}
+
+/// Begins a frame whose body is written in place, and gives the offset where it begins: appends the header of the frame of
+/// this number, and takes the room for the whole frame. The body, of so many bytes, is to be put behind it, and then
+/// `end_frame` is called.
+pub fn begin_frame(number: u64, body_len: usize, out: &mut Vec<u8>) -> Result<usize, AllocError>
+    requires { body_len < 2 ^ 32 }
+    ensures start { IfOk result (λ start. start ≡ length out.old.items) }
+    ensures ok { OnOk result (out.new.items ≡ out.old.items ++ frame_header number body_len) }
+    ensures err { OnErr result (out.new.items ≡ out.old.items) }
+{
+    out.reserve(FRAME_OVERHEAD + body_len)?;
+    let start = out.len();
+    out.extend_from_slice(&(body_len as u32).to_be_bytes())?;
+    out.extend_from_slice(&number.to_be_bytes())?;
+    Ok(start)
+}
+
+/// Ends the frame that begins at `start`: appends its digest behind the header and the body that stand from there on.
+pub fn end_frame(start: usize, out: &mut Vec<u8>) -> Result<(), AllocError>
+    requires { start ≤ length out.old.items }
+    ensures ok { (before : List ℕ) (number : ℕ) (body : List ℕ) → length before ≡ start
+        → out.old.items ≡ before ++ (frame_header number (length body) ++ body)
+        → OnOk result (out.new.items ≡ before ++ frame number body) }
+    ensures err { OnErr result (out.new.items ≡ out.old.items) }
+{
     let digest = digest(&out[start..]);
     out.extend_from_slice(&digest)
 }

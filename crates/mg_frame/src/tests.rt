@@ -19,6 +19,20 @@ fn a_frame_is_the_worked_one(rt: HostRuntime) -> Result<(), Fail> {
 }
 
 #[test]
+fn a_body_is_written_in_place(rt: HostRuntime) -> Result<(), Fail> {
+    let mut out = vec![in rt.alloc(); 7u8, 8]?;
+    let start = begin_frame(1, BODY.len(), &mut out)?;
+    assert_eq!(rt; start, 2);
+    let (first, second) = BODY.split_at(5);
+    out.extend_from_slice(first)?;
+    out.extend_from_slice(second)?;
+    end_frame(start, &mut out)?;
+    assert_eq!(rt; &out[..2], [7, 8].as_slice());
+    assert_eq!(rt; &out[2..], FRAME.as_slice());
+    Ok(())
+}
+
+#[test]
 fn each_answer_of_take_frame(rt: HostRuntime) {
     let whole = Taken::Whole {
         start: 12,
