@@ -7,7 +7,7 @@ use Rattle.std.proofs.lemmas.List.{append_assoc, length_push}
 use Rattle.std.proofs.lemmas.Bool.{eqb-true}
 use Rattle.std.proofs.lemmas.Bool.Decides.{nat_tests}
 use Rattle.mg_model.specs.declared.calls.Call.{Call}
-use Rattle.mg_model.specs.State.{State, least, length_of}
+use Rattle.mg_model.specs.State.{Rises, State, least, length_of}
 use Rattle.mg_model.specs.History.{History, call_at, caller_at, lengths_behind, low, own_calls, own_places, own_places_from, state_at}
 
 slice_get-middle : {X : Type 0} (xs ys : List X) (x : X) → slice_get (xs ++ x ∷ ys) (length xs) ≡ Some x
@@ -61,6 +61,27 @@ callers_from before (e ∷ rest) caller = by_caller (e.0 == caller) refl (later 
     by_caller false is h = h
 
 -- at a caller's places stand the caller's calls
+own_above : (least place : ℕ) (history : History) (caller : ℕ) → least < place → AllByRecursion (λ k. least < k) (own_places_from place history caller)
+own_above least place [] caller lt = tt
+own_above least place (e ∷ history) caller lt = by_caller (e.0 == caller) (own_above least (place + 1) history caller (omega (arith, lt)))
+  where
+    by_caller : (b : Bool) → AllByRecursion (λ k. least < k) (own_places_from (place + 1) history caller)
+        → AllByRecursion (λ k. least < k) (if b then place ∷ own_places_from (place + 1) history caller else own_places_from (place + 1) history caller)
+    by_caller true h = (lt, h)
+    by_caller false h = h
+
+rise_from : (place : ℕ) (history : History) (caller : ℕ) → Rises (own_places_from place history caller)
+rise_from place [] caller = tt
+rise_from place (e ∷ history) caller = by_caller (e.0 == caller) (own_above place (place + 1) history caller (omega arith)) (rise_from (place + 1) history caller)
+  where
+    by_caller : (b : Bool) → AllByRecursion (λ k. place < k) (own_places_from (place + 1) history caller) → Rises (own_places_from (place + 1) history caller)
+        → Rises (if b then place ∷ own_places_from (place + 1) history caller else own_places_from (place + 1) history caller)
+    by_caller true above rise = (above, rise)
+    by_caller false above rise = rise
+
+pub own_places_rise : (history : History) (caller : ℕ) → Rises (own_places history caller)
+own_places_rise history caller = rise_from 1 history caller
+
 pub own_places_have_own_calls : (history : History) (caller : ℕ) → map (call_at history) (own_places history caller) ≡ map (λ call. Some call) (own_calls history caller)
 own_places_have_own_calls history caller = calls_from [] history caller
 

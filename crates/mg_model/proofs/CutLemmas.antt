@@ -1,17 +1,13 @@
 -- Where the shared log is cut, each partition is left with a front of its history.
 use Rattle.std.proofs.Common.{◌≡◌, ℕ, zero, suc, ◌-◌, ◌≤◌, List, [], ◌∷◌, ◌++◌, map, take, Option, None, Some, refl, ap, sym, ◌∙◌, arith}
-use Rattle.std.specs.Bool.{◌==◌}
 use Rattle.std.specs.Option.{option_to_list}
-use Rattle.std.specs.List.{filter}
 use Rattle.std.proofs.Math.Seq.{take-nil}
-use Rattle.std.proofs.lemmas.List.{map-append}
-use Rattle.std.proofs.lemmas.List.Elements.{filter-append}
 use Rattle.mg_model.specs.declared.calls.Call.{Call}
 use Rattle.mg_model.specs.declared.calls.Change.{Change}
 use Rattle.mg_model.specs.History.{after_changes, change_of}
 use Rattle.mg_model.specs.Placed.{CutsBehind, Opening, Placed, changes_at, changes_in, history_in, opening_after, up_to}
 use Rattle.mg_model.proofs.HistoryLemmas.{changes_lead}
-use Rattle.mg_model.proofs.ManyParts.{one_order}
+use Rattle.mg_model.proofs.ManyParts.{history-append, one_order}
 
 -- the first placed calls, which made just so many changes
 record Front (opening : Opening) (count : ℕ) (placed : List Placed) : Type 0 where
@@ -46,11 +42,6 @@ front_of opening count (p ∷ placed) = by_change (change_of (opening p.part) p.
           whole = ap (λ (l : List Placed). p ∷ l) f.whole;
           changes = ap (λ (o : Option Change). take (suc n) (with_first o placed)) e ∙ ap (λ (l : List (ℕ × Change)). (p.part, c) ∷ l) f.changes ∙ sym (ap (λ (o : Option Change). with_first o f.first) e);
         }
-
-history-append : (xs ys : List Placed) (part : ℕ) → history_in (xs ++ ys) part ≡ history_in xs part ++ history_in ys part
-history-append xs ys part =
-    ap (map (λ (q : Placed). (q.client, q.call))) (filter-append (λ (q : Placed). q.part == part) xs ys)
-    ∙ map-append (λ (q : Placed). (q.client, q.call)) (filter (λ (q : Placed). q.part == part) xs) (filter (λ (q : Placed). q.part == part) ys)
 
 pub cut_leaves_fronts : (opening : Opening) (counted number : ℕ) (placed : List Placed) → CutsBehind opening counted number placed
 cut_leaves_fronts opening counted number placed =

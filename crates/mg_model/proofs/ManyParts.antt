@@ -53,3 +53,9 @@ one_order opening (p ∷ placed) part = changes_at-append own (changes_in (openi
         ∙ later
         ∙ ap (λ (b : Bool). changes_of (if b then (step (opening part) p.call).state else opening part) (calls_of placed part)) e
         ∙ sym (ap (λ (b : Bool). changes_of (opening part) (map (λ (e : ℕ × Call). e.1) (map (λ (q : Placed). (q.client, q.call)) (cond b (p ∷ filter (λ (q : Placed). q.part == part) placed) (filter (λ (q : Placed). q.part == part) placed))))) e)
+
+-- the history of a partition through some placed calls and more
+pub history-append : (xs ys : List Placed) (part : ℕ) → history_in (xs ++ ys) part ≡ history_in xs part ++ history_in ys part
+history-append xs ys part =
+    ap (map (λ (q : Placed). (q.client, q.call))) (filter-append (λ (q : Placed). q.part == part) xs ys)
+    ∙ map-append (λ (q : Placed). (q.client, q.call)) (filter (λ (q : Placed). q.part == part) xs) (filter (λ (q : Placed). q.part == part) ys)

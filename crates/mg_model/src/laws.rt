@@ -5,7 +5,7 @@ ghost use Rattle.std.specs.List.{AllByRecursion};
 ghost use Rattle.mg_model.specs.declared.calls.Call.{Call};
 ghost use Rattle.mg_model.specs.declared.calls.Change.{Change};
 ghost use Rattle.mg_model.specs.declared.replies.Answer.{Answer};
-ghost use Rattle.mg_model.specs.State.{HasRoom, InLimits, IsState, length_of, State, new_state, step};
+ghost use Rattle.mg_model.specs.State.{HasRoom, InLimits, IsState, length_of, Rises, State, new_state, step};
 ghost use Rattle.mg_model.specs.History.{History, after_calls, after_change, after_changes, AllAllowed, allows, call_at, call_for, caller_at, change_of, changes_of, low, own_calls, own_places, state_at};
 ghost use Rattle.mg_model.specs.Placed.{changes_at, changes_in, CutsBehind, history_in, Opening, Placed, up_to};
 ghost use Rattle.mg_model.specs.Fits.{Fits};
@@ -45,10 +45,11 @@ pub fn room_keeps_the_limits()
     ensures step { (s : State) (call : Call) → HasRoom s call → InLimits s → InLimits (step s call).state }
 {}
 
-/// At a caller's own places stand this caller's calls.
+/// At a caller's own places stand this caller's calls, in their order. So no place is that of two callers.
 pub fn own_places_have_own_calls()
     ensures calls { (history : History) (caller : ℕ) → map (call_at history) (own_places history caller) ≡ map (λ call. Some call) (own_calls history caller) }
     ensures callers { (history : History) (caller : ℕ) → AllByRecursion (λ place. caller_at history place ≡ Some caller) (own_places history caller) }
+    ensures rise { (history : History) (caller : ℕ) → Rises (own_places history caller) }
 {}
 
 /// `low` is at most each length between the two places, and no number that is so is greater.
