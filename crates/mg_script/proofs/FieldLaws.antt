@@ -8,7 +8,7 @@ use Rattle.std.specs.Cmp.Lexicographic.{same_text}
 use Rattle.std.proofs.lemmas.List.{append-nil}
 use Rattle.std.proofs.lemmas.Bool.{ltb-true, lt-ltb}
 use Rattle.std.proofs.lemmas.Bool.Decides.{nat_tests}
-use Rattle.mg_types.specs.Bytes.{IsDoc, IsKey}
+use Rattle.mg_types.specs.Bytes.{AreBytes, IsDoc, IsKey}
 use Rattle.mg_model.specs.declared.calls.Call.{Call}
 use Rattle.mg_model.specs.declared.calls.Call.TheVariants as call
 use Rattle.mg_types.specs.declared.faults.Why.{Why}
@@ -18,7 +18,7 @@ use Rattle.mg_script.specs.declared.fields.Verb.TheVariants as verb
 use Rattle.mg_script.specs.declared.script.Line.{Line}
 use Rattle.mg_script.specs.Tokens.{number_of, token_of, bytes_of_token}
 use Rattle.mg_script.specs.Script.{◌>>=◌, take_field, passing, client_of, part_of, limit_of, key_of, doc_of, verb_of, call_of, no_more, line_of}
-use Rattle.mg_script.specs.Lines.{AreBytes, verb_word, call_fields, line_fields, IsAskable, IsSpellable}
+use Rattle.mg_script.specs.Lines.{verb_word, call_fields, line_fields, IsAskable, IsSpellable}
 use Rattle.mg_script.proofs.TokenLaws.{number_spelled, number_again, token_spelled, token_again}
 
 -- the two parts of a step that went on

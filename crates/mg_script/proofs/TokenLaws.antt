@@ -9,10 +9,11 @@ use Rattle.std.specs.Str.Parse.{digits_value}
 use Rattle.std.specs.Cmp.Lexicographic.{same_text}
 use Rattle.std.proofs.lemmas.Bool.{cases_lt, eqb-true, ltb-true}
 use Rattle.std.proofs.lemmas.List.{nil_from_length}
+use Rattle.std.proofs.lemmas.List.Elements.{All-head, All-tail}
 use Rattle.std.proofs.lemmas.Bool.Decides.{nat_tests}
 use Rattle.std.proofs.lemmas.Fmt.{digits_value-decimal}
 use Rattle.mg_script.specs.Tokens.{number_of, is_plain, hex_digit, byte_text, token_of, hex_value, escaped, plain_then, bytes_spelled, bytes_of_token}
-use Rattle.mg_script.specs.Lines.{AreBytes}
+use Rattle.mg_types.specs.Bytes.{AreBytes}
 use Rattle.mg_script.proofs.Numbers.{numerals, number_decimal, decimal_is_decimal}
 use Rattle.mg_script.proofs.Spellings.{spelled_escape, spelled_plain}
 
@@ -165,7 +166,7 @@ bytes_back (c ∷ d ∷ g ∷ rest) bytes e = by_first (c == 37) refl e (λ more
 pub bytes_again : (bytes : List ℕ) → AreBytes bytes → bytes_spelled (flat_map byte_text bytes) ≡ Some bytes
 unfolding bytes_spelled
 bytes_again [] small = refl
-bytes_again (b ∷ bytes) small = by_test (is_plain b) refl (bytes_again bytes small.1)
+bytes_again (b ∷ bytes) small = by_test (is_plain b) refl (bytes_again bytes (All-tail (λ byte. byte < 2 ^ 8) b bytes small))
   where
     rest : List ℕ
     rest = flat_map byte_text bytes
@@ -182,7 +183,7 @@ bytes_again (b ∷ bytes) small = by_test (is_plain b) refl (bytes_again bytes s
     by_test false p again =
         ap (λ (t : List ℕ). bytes_spelled (t ++ rest)) (escaped_text b p)
         ∙ spelled_escape (37 ∷ hex_digit (b / 16) ∷ hex_digit (b % 16) ∷ rest) (omega arith) refl
-        ∙ ap (option_and_then (λ k. option_map (λ bs. k ∷ bs) (bytes_spelled rest))) (escape_again b small.0 p)
+        ∙ ap (option_and_then (λ k. option_map (λ bs. k ∷ bs) (bytes_spelled rest))) (escape_again b (All-head (λ byte. byte < 2 ^ 8) b bytes small) p)
         ∙ ap (option_map (λ bs. b ∷ bs)) again
 
 -- the token of some bytes is their spelling

@@ -1,16 +1,12 @@
 -- The one spelling of a script.
 use Rattle.std.specs.Prelude.{◌≡◌, ◌<◌, ◌≤◌, ◌^◌, ⊤, ℕ, List, [], ◌∷◌, ◌++◌, codes}
 use Rattle.std.specs.Fmt.{decimal}
-use Rattle.std.specs.List.{AllByRecursion, flat_map, join_with_byte}
+use Rattle.std.specs.List.{flat_map, join_with_byte}
 use Rattle.mg_model.specs.declared.calls.Call.{Call}
 use Rattle.mg_model.specs.declared.calls.Call.TheVariants as call
-use Rattle.mg_types.specs.Bytes.{IsDoc, IsKey}
+use Rattle.mg_types.specs.Bytes.{AreBytes, IsDoc, IsKey}
 use Rattle.mg_script.specs.declared.script.Line.{Line}
 use Rattle.mg_script.specs.Tokens.{token_of}
-
--- a list of bytes
-abbrev pub AreBytes : List ℕ → Type 0
-AreBytes bytes = AllByRecursion (λ b. b < 256) bytes
 
 -- the word for what a call asks
 abbrev pub verb_word : Call → List ℕ
