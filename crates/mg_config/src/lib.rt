@@ -7,4 +7,4 @@ mod settings;
 mod tests;
 
 pub use document::{MAX_LEN, read_settings};
-pub use settings::Settings;
+pub use settings::{SettingRange, Settings};

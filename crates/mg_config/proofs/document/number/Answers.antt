@@ -11,7 +11,7 @@ returns-in-None-clause-value c =
 pub returns-in-Some-as_integer-clause-value : goal.returns-in-Some-as_integer-clause-value
 returns-in-Some-as_integer-clause-value c =
     let found = table_get c.get.result c.args.key.now c.args.table.now.entries c.get.ensures.value in
-    let given : c.number_in.result ≡ number_in c.args.least c.args.most c.in-Some-as_integer.integer = search (rules, c.number_in.ensures) in
+    let given : c.number_in.result ≡ number_in c.args.range c.in-Some-as_integer.integer = search (rules, c.number_in.ensures) in
     rw (← rw c.in-Some.is at found, ← c.as_integer.ensures, c.in-Some-as_integer.is) given
 
 pub returns-in-None-as_integer-clause-value : goal.returns-in-None-as_integer-clause-value
