@@ -1,12 +1,11 @@
 -- What is told of a file, and how calls answer: steps that all kinds of sealed files take.
-use Rattle.std.proofs.Common.{◌≡◌, ℕ, ◌≤◌, ◌^◌, ◌⊎◌, cond, eqb, List, length, refl, sym, ap, ◌∙◌, subst, inl, inr, Option, Some, None, IfSome, Result, Ok, Err, IfOk, IfErr}
+use Rattle.std.proofs.Common.{◌≡◌, ℕ, ◌≤◌, ◌⊎◌, cond, eqb, List, length, refl, sym, ap, ◌∙◌, subst, inl, inr, Option, Some, None, IfSome, Result, Ok, Err, IfOk, IfErr}
 use Rattle.std.proofs.lemmas.Bool.{le-ltb, eq-eqb, ne_eqb, cases_eq}
 use Rattle.std.specs.Prelude.{nat_lt}
 use Rattle.mg_types.specs.declared.faults.Fault.{Fault}
-use Rattle.mg_types.specs.declared.faults.Fault.TheVariants.{Damaged, Malformed, NoMemory}
+use Rattle.mg_types.specs.declared.faults.Fault.TheVariants.{Damaged}
 use Rattle.mg_types.specs.declared.names.FileId.{FileId}
 use Rattle.mg_sealed.specs.Answers.{Answers, IsOutside}
-use Rattle.mg_sealed.specs.Numbers.{IsTooGreat}
 use Rattle.mg_sealed.specs.Reading.{opened}
 use Rattle.mg_sealed.specs.declared.reading.SealedFile.{SealedFile}
 
@@ -43,9 +42,6 @@ ok_same value other is = cc
 pub err_same : {V : Type 0} (result : Result V Fault) (fault other : Fault) → result ≡ Err fault → result ≡ Err other → fault ≡ other
 err_same {V} result fault other one two = let x : Result V Fault = Err fault in let y : Result V Fault = Err other in let e : x ≡ y = sym one ∙ two in cc
 
-pub err_not_ok : {V : Type 0} (fault : Fault) (value : V) → let r : Result V Fault = Err fault in r ≡ Ok value → ⊥
-err_not_ok fault value is = cc
-
 pub ok_not_err : {V : Type 0} (result : Result V Fault) (value : V) (fault : Fault) → result ≡ Ok value → result ≡ Err fault → ⊥
 ok_not_err result value fault ok err = let e : Ok value ≡ Err fault = sym ok ∙ err in absurd cc
 
@@ -71,14 +67,6 @@ answers {V} value result is = subst (λ (r : Result V Fault). Answers (Ok value)
 pub refused_by : {V : Type 0} (answer : Result V Fault) (fault : Fault) (P : Fault → Type 0) → ((f : Fault) → answer ≡ Err f → P f) → Answers answer (Err fault) → IsOutside fault ⊎ P fault
 refused_by answer fault P step (inl from) = inl from
 refused_by answer fault P step (inr is) = inr (step fault is)
-
--- ---- faults
-
-pub malformed_not_memory : (id : FileId) (at : ℕ) (fault : Fault) → fault ≡ Malformed id at → fault ≡ NoMemory → ⊥
-malformed_not_memory id at fault is memory = let e : Malformed id at ≡ NoMemory = sym is ∙ memory in absurd cc
-
-pub too_great_not_memory : (id : FileId) (at : ℕ) (numbers : List ℕ) (fault : Fault) → IsTooGreat id at numbers fault → fault ≡ NoMemory → ⊥
-too_great_not_memory id at numbers fault is memory = let e : Damaged id at is.number (2 ^ 62) ≡ NoMemory = sym is.fault_is ∙ memory in absurd cc
 
 -- ---- opening
 

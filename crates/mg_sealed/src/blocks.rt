@@ -1,7 +1,7 @@
 //! Blocks of a sealed file, whose offsets and lengths its index says.
 
 ghost use Rattle.std.specs.Prelude.{◌≡◌, ◌+◌, ◌<◌, ◌≤◌, ◌^◌, ◌⊎◌, length, IfOk, IfErr, IfSome};
-ghost use Rattle.mg_faults.specs.Causes.{HasCause};
+ghost use Rattle.mg_faults.specs.Causes.{HasCause, CountsOnce};
 ghost use Rattle.mg_frame.specs.Frame.{StandsAt};
 ghost use Rattle.mg_sealed.specs.Answers.{Answers, IsOutside};
 ghost use Rattle.mg_sealed.specs.Blocks.{block_body, IsUnfitAt};
@@ -72,6 +72,7 @@ pub trait Blocks: Files {
         ensures len { IfOk result (λ body. length body + 20 ≡ len) }
         ensures refusals { IfErr result (λ fault. IsOutside fault ⊎ IsUnfitAt file.now.id at fault) }
         ensures cause { HasCause Fault.ReadFault (Self.Files.faults self.old) (Self.Files.faults self.new) result }
+        ensures once { CountsOnce (Self.Files.faults self.old) (Self.Files.faults self.new) result }
     {
         read_block(alloc, self, file, at, len, number, buffer)
     }
@@ -98,6 +99,7 @@ fn read_block<F: Files>(
     ensures len { IfOk result (λ body. length body + 20 ≡ len) }
     ensures refusals { IfErr result (λ fault. IsOutside fault ⊎ IsUnfitAt file.now.id at fault) }
     ensures cause { HasCause Fault.ReadFault (F.faults port.old) (F.faults port.new) result }
+    ensures once { CountsOnce (F.faults port.old) (F.faults port.new) result }
 {
     let frame = read_frame_into(alloc, port, file, at, len as usize, number, buffer)?;
     if frame.body().len() as u64 + FRAME_OVERHEAD as u64 != u64::from(len) {

@@ -1,7 +1,7 @@
 //! Frames of a sealed file.
 
 ghost use Rattle.std.specs.Prelude.{◌≡◌, ◌+◌, ◌-◌, ◌<◌, ◌≤◌, ◌^◌, ◌⊎◌, length, take, drop, IfOk, IfErr, IfSome, MatchResult, Ok, Err};
-ghost use Rattle.mg_faults.specs.Causes.{HasCause};
+ghost use Rattle.mg_faults.specs.Causes.{HasCause, CountsOnce};
 ghost use Rattle.mg_frame.specs.Frame.{said_number, taken, StandsAt};
 ghost use Rattle.mg_sealed.specs.Answers.{Answers, IsOutside};
 ghost use Rattle.mg_sealed.specs.Footer.{footer_body, judged_footer, said_blocks};
@@ -85,6 +85,7 @@ pub fn open_sealed<F: Files>(
     ensures same { IfOk result (λ opened. opened ≡ record { id = id; file = file; len = len }) }
     ensures least { IfOk result (λ opened. least ≤ opened.len) }
     ensures cause { HasCause Fault.ReadFault (F.faults port.old) (F.faults port.new) result }
+    ensures once { CountsOnce (F.faults port.old) (F.faults port.new) result }
 {
     let found = port.len(alloc, &file).map_err(read_fault)?;
     if found != len {
@@ -114,6 +115,7 @@ pub fn read_frame<F: Files>(
         IfOk result (λ body. StandsAt bytes at (number, body))) }
     ensures refusals { IfErr result (λ fault. IsOutside fault ⊎ IsDamageAt file.now.id at fault) }
     ensures cause { HasCause Fault.ReadFault (F.faults port.old) (F.faults port.new) result }
+    ensures once { CountsOnce (F.faults port.old) (F.faults port.new) result }
 {
     read_frame_into(alloc, port, file, at, expected, number, Vec::new(alloc))
 }
@@ -135,6 +137,7 @@ pub(crate) fn read_frame_into<F: Files>(
         IfOk result (λ body. StandsAt bytes at (number, body))) }
     ensures refusals { IfErr result (λ fault. IsOutside fault ⊎ IsDamageAt file.now.id at fault) }
     ensures cause { HasCause Fault.ReadFault (F.faults port.old) (F.faults port.new) result }
+    ensures once { CountsOnce (F.faults port.old) (F.faults port.new) result }
 {
     let bytes = read_enough(alloc, port, file, at, expected, buffer)?;
     judge(file.id, at, file.len, number, bytes)
@@ -162,6 +165,7 @@ pub fn read_footer<F: Files>(
     ensures refusals { IfErr result (λ fault. IsOutside fault ⊎ IsDamageAt file.now.id (file.now.len - size) fault
         ⊎ (fault ≡ Fault.Malformed file.now.id (file.now.len - size))) }
     ensures cause { HasCause Fault.ReadFault (F.faults port.old) (F.faults port.new) result }
+    ensures once { CountsOnce (F.faults port.old) (F.faults port.new) result }
 {
     let at = file.len - size;
     let bytes = read_enough(alloc, port, file, at, size as usize, Vec::new(alloc))?;
@@ -183,6 +187,7 @@ fn read_enough<F: Files>(
         IfOk result (λ piece. IsEnough (drop at bytes) piece.items)) }
     ensures outside { IfErr result (λ fault. IsOutside fault) }
     ensures cause { HasCause Fault.ReadFault (F.faults port.old) (F.faults port.new) result }
+    ensures once { CountsOnce (F.faults port.old) (F.faults port.new) result }
 {
     let left = file.len.saturating_sub(at);
     let first = left.min(expected.max(FRAME_HEADER) as u64);
@@ -207,6 +212,7 @@ fn read_piece<F: Files>(
     ensures told { IfSome (F.told file.now.file) (λ bytes. IfOk result (λ piece. piece.items ≡ take size (drop at bytes))) }
     ensures outside { IfErr result (λ fault. IsOutside fault) }
     ensures cause { HasCause Fault.ReadFault (F.faults port.old) (F.faults port.new) result }
+    ensures once { CountsOnce (F.faults port.old) (F.faults port.new) result }
 {
     let mut bytes = sized(buffer, size)?;
     let count = port

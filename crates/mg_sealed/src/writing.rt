@@ -1,7 +1,7 @@
 //! Frames into a draft.
 
 ghost use Rattle.std.specs.Prelude.{◌≡◌, ◌+◌, ◌<◌, ◌^◌, ℕ, List, [], ◌∷◌, ◌++◌, length, IfOk, IfErr, IfSome, OnOk, OnErr};
-ghost use Rattle.mg_faults.specs.Causes.{HasCause};
+ghost use Rattle.mg_faults.specs.Causes.{HasCause, CountsOnce};
 ghost use Rattle.mg_frame.specs.Frames.{numbered_frames};
 ghost use Rattle.mg_sealed.specs.Answers.{IsUnwritten};
 ghost use Rattle.mg_sealed.specs.Laws.{WrittenFrameIsRead};
@@ -67,6 +67,7 @@ pub fn start_frames<F: Files>(alloc: Global, port: &mut F) -> Result<FrameWriter
     ensures count { IfOk result (λ writer. writer.count ≡ 0) }
     ensures outside { IfErr result (λ fault. IsUnwritten fault) }
     ensures cause { HasCause Fault.WriteFault (F.faults port.old) (F.faults port.new) result }
+    ensures once { CountsOnce (F.faults port.old) (F.faults port.new) result }
 {
     let draft = port.fresh(alloc).map_err(write_fault)?;
     Ok(FrameWriter {
@@ -94,6 +95,7 @@ pub fn append_frame<F: Files>(
     ensures err { OnErr result ((writer.new.len ≡ writer.old.len) × (writer.new.count ≡ writer.old.count)) }
     ensures outside { IfErr result (λ fault. IsUnwritten fault) }
     ensures cause { HasCause Fault.WriteFault (F.faults port.old) (F.faults port.new) result }
+    ensures once { CountsOnce (F.faults port.old) (F.faults port.new) result }
 {
     writer.frame.clear();
     put_frame(writer.count, body, &mut writer.frame)?;
@@ -119,6 +121,7 @@ pub fn seal_frames<F: Files>(
     ensures len { IfOk result (λ file. file.len ≡ writer.len) }
     ensures outside { IfErr result (λ fault. IsUnwritten fault) }
     ensures cause { HasCause Fault.WriteFault (F.faults port.old) (F.faults port.new) result }
+    ensures once { CountsOnce (F.faults port.old) (F.faults port.new) result }
 {
     let FrameWriter {
         draft,
