@@ -17,10 +17,10 @@ IsFrameLength form len = (form.least_frame ≤ len) × (len ≤ form.most_frame)
 abbrev pub table_form : Form
 table_form = record { least_frame = 37; most_frame = 4116; filtered = true }
 
--- Segments: a block has at least a record of 11 bytes and at most one of 1,048,840.
+-- Segments: a block has at least 11 bytes, those of the shortest record, and at most 1,048,840, those of the longest.
 abbrev pub segment_form : Form
 segment_form = record { least_frame = 31; most_frame = 1048860; filtered = false }
 
--- Delete lists: a block has from 1 to 341 records of 12 bytes.
+-- Delete lists: a block has at least a record of 12 bytes and at most 4,096 bytes.
 abbrev pub list_form : Form
-list_form = record { least_frame = 32; most_frame = 4112; filtered = false }
+list_form = record { least_frame = 32; most_frame = 4116; filtered = false }

@@ -78,7 +78,7 @@ fn put_offsets(footer: &Footer, out: &mut Vec<u8>) -> Result<(), AllocError>
 }
 
 /// The body of the footer's frame.
-pub(crate) fn footer_body(alloc: Global, footer: &Footer) -> Result<Vec<u8>, AllocError>
+pub fn footer_body(alloc: Global, footer: &Footer) -> Result<Vec<u8>, AllocError>
     ensures { IfOk result (λ body. body.items ≡ footer_bytes footer.now) }
 {
     let mut body = Vec::new(alloc);

@@ -26,7 +26,7 @@ fn put_handle<K: BlockKey>(handle: &BlockHandle<K>, out: &mut Vec<u8>) -> Result
 }
 
 /// The body of the index frame.
-pub(crate) fn index_body<K: BlockKey>(
+pub fn index_body<K: BlockKey>(
     alloc: Global,
     handles: &[BlockHandle<K>],
 ) -> Result<Vec<u8>, AllocError>

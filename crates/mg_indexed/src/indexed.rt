@@ -57,6 +57,14 @@ impl<S, K: BlockKey, T: BlockItem> Indexed<S, K, T> {
         self.index.as_slice()
     }
 
+    /// The file, its footer and its index.
+    pub fn into_parts(self) -> (SealedFile<S>, Footer, Items<BlockHandle<K>>)
+        ensures parts { result ≡ (self.file, self.footer, self.index) }
+        ensures kept { IsKept K.keys T.form self.footer self.index }
+    {
+        (self.file, self.footer, self.index)
+    }
+
     /// How many blocks begin up to a key. It looks at as many handles as their number has binary digits.
     pub fn blocks_up_to(&self, key: &K) -> usize
         ensures within { result ≤ length self.now.index }

@@ -63,8 +63,8 @@ impl BlockItem for Item {
 /// The whole length of the frame of one record of a delete list.
 const LEAST_OF_LISTS: u32 = 32;
 
-/// The whole length of the frame of as many as a block holds.
-const MOST_OF_LISTS: u32 = 4_112;
+/// The whole length of the frame of a full block.
+const MOST_OF_LISTS: u32 = 4_116;
 
 /// Delete lists.
 impl BlockItem for Dead {

@@ -19,8 +19,9 @@ mod table_key;
 mod tests;
 mod writing;
 
-pub use footer::{Footer, Summary};
+pub use footer::{Footer, Summary, footer_body};
 pub use handle::BlockHandle;
+pub use index::index_body;
 pub use indexed::Indexed;
 pub use item::BlockItem;
 pub use key::BlockKey;

@@ -1,7 +1,7 @@
 //! Loading a file: its footer and its index.
 
 ghost use Rattle.std.specs.Prelude.{◌≡◌, ℕ, ◌-◌, ◌<◌, ◌≤◌, ◌^◌, ◌⊎◌, List, length, IfErr, IfOk, IfSome, MatchResult};
-ghost use Rattle.mg_faults.specs.Causes.{HasCause};
+ghost use Rattle.mg_faults.specs.Causes.{HasCause, CountsOnce};
 ghost use Rattle.mg_sealed.specs.Answers.{IsOutside};
 ghost use Rattle.mg_sealed.specs.Blocks.{IsUnfitAt};
 ghost use Rattle.mg_indexed.specs.Footer.{footer_size, index_end, others, IsFooter};
@@ -50,7 +50,8 @@ fn index_ends(footer: &Footer, len: u64) -> u64
 }
 
 /// Loads a file of which this length in bytes is kept: reads its footer and its index, and no block. Each frame and each field is
-/// judged, in the order in which they stand in docs/formats.md. It takes memory for the index alone.
+/// judged, in the order in which they stand in docs/formats.md. It takes memory for the footer
+/// and the index, and no more than the file has where the footer says a wrong place.
 pub fn load<F: Files, K: BlockKey, T: BlockItem>(
     alloc: Global,
     port: &mut F,
@@ -69,6 +70,7 @@ pub fn load<F: Files, K: BlockKey, T: BlockItem>(
     ensures kinds { IfErr result (λ fault. IsOutside fault ⊎ ((at : ℕ) × IsUnfitAt id at fault)) }
     ensures refusals { IfErr result (λ fault. IfSome (F.told file) (λ bytes. IsOutside fault ⊎ IsRefused K.keys T.form id file len bytes fault)) }
     ensures cause { HasCause Fault.ReadFault (F.faults port.old) (F.faults port.new) result }
+    ensures once { CountsOnce (F.faults port.old) (F.faults port.new) result }
 {
     let filtered = T::has_filter();
     let file = open_sealed(alloc, port, id, file, len, footer_len(filtered))?;
@@ -98,6 +100,7 @@ fn load_footer<F: Files>(
     ensures refusals { IfErr result (λ fault. IfSome (F.told file.now.file) (λ bytes. file.now.len ≡ length bytes →
         IsOutside fault ⊎ IsFooterRefused filtered file.now.id bytes fault)) }
     ensures cause { HasCause Fault.ReadFault (F.faults port.old) (F.faults port.new) result }
+    ensures once { CountsOnce (F.faults port.old) (F.faults port.new) result }
 {
     let size = footer_len(filtered);
     let frame = read_footer(alloc, port, file, size, frames_between(filtered))?;
@@ -120,6 +123,7 @@ fn load_index<F: Files, K: BlockKey, T: BlockItem>(
     ensures refusals { IfErr result (λ fault. IfSome (F.told file.now.file) (λ bytes. file.now.len ≡ length bytes →
         IsOutside fault ⊎ IsIndexRefused K.keys T.form file.now.id bytes footer.now fault)) }
     ensures cause { HasCause Fault.ReadFault (F.faults port.old) (F.faults port.new) result }
+    ensures once { CountsOnce (F.faults port.old) (F.faults port.new) result }
 {
     let end = index_ends(footer, file.len);
     let size = end.saturating_sub(footer.index_at).min(file.len);

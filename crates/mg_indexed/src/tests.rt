@@ -1,8 +1,10 @@
 //! Files by their bytes.
 
+ghost use Rattle.std.specs.Prelude.{◌≡◌, [], ◌∷◌, IfOk};
+
 use super::*;
 use mg_disk::Files;
-use mg_memdisk::{MemFiles, MemSealed};
+use mg_memdisk::{MemDraft, MemFiles, MemSealed};
 use mg_sealed::{SealedFile, append_frame, seal_frames, start_frames};
 use mg_types::{Dead, Entry, Fault, FileId, Item, Key, Kind};
 use std::alloc::Global;
@@ -41,7 +43,7 @@ fn file_of(
 ) -> Result<SealedFile<MemSealed>, Fault> {
     let mut frames = start_frames(alloc, port)?;
     for body in bodies {
-        if body.len() > 4_100 || frames.len() > 1 << 20 {
+        if body.len() > 1 << 21 || frames.len() > 1 << 21 {
             return Err(Fault::BadWords);
         }
         append_frame(alloc, port, &mut frames, body)?;
@@ -55,7 +57,7 @@ fn load_of<K: BlockKey, T: BlockItem>(
     port: &mut MemFiles,
     file: SealedFile<MemSealed>,
 ) -> Result<Indexed<MemSealed, K, T>, Fault> {
-    if file.len > 1 << 21 {
+    if file.len > 1 << 23 {
         return Err(Fault::BadWords);
     }
     load::<MemFiles, K, T>(alloc, port, ID, file.file, file.len)
@@ -154,7 +156,7 @@ fn each_fault_is_named_where_it_stands(rt: HostRuntime) -> Result<(), Fail> {
 /// Bytes of blocks, of which only the length is judged.
 const ZEROS: [u8; 4_097] = [0; 4_097];
 
-/// A file of records of one block of which this is the whole frame's length, in two bytes.
+/// A file of records of one block of which this is the whole frame's length, in the last two of four bytes.
 fn records_of_frame<T: BlockItem>(alloc: Global, block: &[u8], frame: [u8; 2]) -> Option<Fault> {
     let index = with(with(INDEX, 18, frame[0]), 19, frame[1]);
     let footer = with(with(FOOTER, 39, frame[0]), 40, frame[1]);
@@ -180,8 +182,8 @@ fn each_kind_of_file_has_its_bounds_of_a_block(rt: HostRuntime) -> Result<(), Fa
     let lists: [(&[u8], [u8; 2], Option<Fault>); 4] = [
         (&ZEROS[..11], [0, 31], malformed_at(31)),
         (&ZEROS[..12], [0, 32], None),
-        (&ZEROS[..4_092], [16, 16], None),
-        (&ZEROS[..4_093], [16, 17], malformed_at(4_113)),
+        (&ZEROS[..4_096], [16, 20], None),
+        (&ZEROS[..4_097], [16, 21], malformed_at(4_117)),
     ];
     for (block, frame, fault) in lists {
         assert_eq!(rt; records_of_frame::<Dead>(alloc, block, frame), fault);
@@ -202,6 +204,102 @@ fn each_kind_of_file_has_its_bounds_of_a_block(rt: HostRuntime) -> Result<(), Fa
     ];
     for (block, frame, filter, fault) in tables {
         assert_eq!(rt; table_of_frame(alloc, block, frame, filter), fault);
+    }
+    Ok(())
+}
+
+/// A segment of one block of this many bytes, of which this is the whole frame's length, in its last three bytes.
+fn long_segment(alloc: Global, size: usize, frame: [u8; 3]) -> Result<Option<Fault>, Fail> {
+    let block = vec![in alloc; 0; size]?;
+    let index = with(INDEX, 17, frame[0]);
+    let footer = with(FOOTER, 38, frame[0]);
+    let index = with(with(index, 18, frame[1]), 19, frame[2]);
+    let footer = with(with(footer, 39, frame[1]), 40, frame[2]);
+    Ok(records_of::<Item>(alloc, &block, &index, &footer).err())
+}
+
+#[test]
+fn the_longest_block_of_a_segment_is_taken(rt: HostRuntime) -> Result<(), Fail> {
+    let alloc = rt.alloc();
+    assert_eq!(rt; long_segment(alloc, 1_048_840, [16, 1, 28])?, None);
+    assert_eq!(rt;
+        long_segment(alloc, 1_048_841, [16, 1, 29])?,
+        malformed_at(1_048_861)
+    );
+    Ok(())
+}
+
+#[test]
+fn a_worked_list_is_written(rt: HostRuntime) -> Result<(), Fail> {
+    let alloc = rt.alloc();
+    let mut port = MemFiles::new(Vec::new(alloc));
+    let mut closed = ClosedBlocks::<_, u64, Dead>::new(alloc, &mut port)?;
+    assert_eq!(rt; closed.index_len(), 0);
+    assert_eq!(rt; ClosedBlocks::<MemDraft, u64, Dead>::handle_len(&1), 20);
+    closed.close(alloc, &mut port, 1, &BLOCK)?;
+    assert_eq!(rt; closed.index_len(), 20);
+    let summary = Summary {
+        count: 1,
+        sum: 2,
+        low: 1,
+        high: 1,
+    };
+    let list = closed.finish(alloc, &mut port, ID, &summary, &[])?;
+    assert_eq!(rt; list.file().len, 137);
+    let written = load::<MemFiles, u64, Dead>(alloc, &mut port, ID, list.file.file, 137)?;
+    let read = records_of::<Dead>(alloc, &BLOCK, &INDEX, &FOOTER)?;
+    assert_eq!(rt; *written.footer(), *read.footer());
+    assert_eq!(rt; written.handles().len(), 1);
+    Ok(())
+}
+
+/// The key of one byte.
+fn key_of(alloc: Global, byte: u8) -> Result<Key, Fault>
+    ensures { IfOk result (λ key. key ≡ byte ∷ []) }
+{
+    let key = Key::new(alloc, &[byte])?;
+    Ok(key.unwrap())
+}
+
+#[test]
+fn a_worked_table_is_written(rt: HostRuntime) -> Result<(), Fail> {
+    let alloc = rt.alloc();
+    let mut port = MemFiles::new(Vec::new(alloc));
+    let mut closed = ClosedBlocks::<_, Key, Entry>::new(alloc, &mut port)?;
+    let first = key_of(alloc, b'a')?;
+    assert_eq!(rt;
+        ClosedBlocks::<MemDraft, Key, Entry>::handle_len(&first),
+        14
+    );
+    closed.close(alloc, &mut port, first, &ZEROS[..34])?;
+    let summary = Summary {
+        count: 2,
+        sum: 4,
+        low: 0,
+        high: 3,
+    };
+    let table = closed.finish(alloc, &mut port, ID, &summary, &ZEROS[..8])?;
+    assert_eq!(rt; table.file().len, 189);
+    assert_eq!(rt; table.footer().index_at, 54);
+    assert_eq!(rt; table.footer().filter_at, Some(88));
+    assert_eq!(rt; table.handles().len(), 1);
+    Ok(())
+}
+
+/// An index of two blocks that begin with the numbers 3 and 5.
+const TWO_HANDLES: [u8; 40] = [
+    0, 0, 0, 0, 0, 0, 0, 3, 0, 0, 0, 0, 0, 0, 0, 0, 0, 0, 0, 32, 0, 0, 0, 0, 0, 0, 0, 5, 0, 0, 0,
+    0, 0, 0, 0, 32, 0, 0, 0, 32,
+];
+
+#[test]
+fn blocks_that_begin_up_to_a_number_are_counted(rt: HostRuntime) -> Result<(), Fail> {
+    let alloc = rt.alloc();
+    let footer = with(with(FOOTER, 40, 64), 44, 2);
+    let list = loaded::<u64, Dead>(alloc, &[&BLOCK, &BLOCK, &TWO_HANDLES, &footer])?;
+    assert_eq!(rt; list.handles().len(), 2);
+    for (number, blocks) in [(2, 0), (3, 1), (4, 1), (5, 2), (6, 2)] {
+        assert_eq!(rt; list.blocks_up_to(&number), blocks);
     }
     Ok(())
 }

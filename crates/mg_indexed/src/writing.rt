@@ -1,13 +1,13 @@
 //! Writing a file: its blocks, and what stands behind them.
 
 ghost use Rattle.std.specs.Prelude.{◌≡◌, ◌≢◌, ◌+◌, ◌<◌, ◌≤◌, ◌^◌, ℕ, List, [], ◌∷◌, ◌++◌, length, IfOk, IfErr, IfSome, OnOk, OnErr};
-ghost use Rattle.mg_faults.specs.Causes.{HasCause};
+ghost use Rattle.mg_faults.specs.Causes.{HasCause, CountsOnce};
 ghost use Rattle.mg_frame.specs.Frames.{numbered_frames};
 ghost use Rattle.mg_sealed.specs.Answers.{IsUnwritten};
 ghost use Rattle.mg_sealed.specs.Writing.{HasFrames};
 ghost use Rattle.mg_indexed.specs.Forms.{IsFrameLength};
 ghost use Rattle.mg_indexed.specs.Index.{first_after};
-ghost use Rattle.mg_indexed.specs.Loading.{IsIndexed};
+ghost use Rattle.mg_indexed.specs.Loading.{IsIndexed, IsKept};
 ghost use Rattle.mg_indexed.specs.Writing.{file_bodies, filter_frames, filter_place, footer_from, handle_length, index_length, IsSummary};
 
 use crate::footer::{Footer, Summary, footer_body};
@@ -59,6 +59,7 @@ impl<D: Drop, K: BlockKey, T: BlockItem> ClosedBlocks<D, K, T> {
         ensures index { IfOk result (λ closed. closed.index ≡ []) }
         ensures outside { IfErr result (λ fault. IsUnwritten fault) }
         ensures cause { HasCause Fault.WriteFault (F.faults port.old) (F.faults port.new) result }
+        ensures once { CountsOnce (F.faults port.old) (F.faults port.new) result }
     {
         Ok(ClosedBlocks {
             frames: start_frames(alloc, port)?,
@@ -68,9 +69,10 @@ impl<D: Drop, K: BlockKey, T: BlockItem> ClosedBlocks<D, K, T> {
         })
     }
 
-    /// How many bytes the body of the index has.
+    /// How many bytes the body of the index has, which fit a frame.
     pub fn index_len(&self) -> u64
-        ensures { result ≡ index_length K.keys self.now.index }
+        ensures len { result ≡ index_length K.keys self.now.index }
+        ensures few { result < 2 ^ 32 }
     {
         self.index_len
     }
@@ -100,9 +102,11 @@ impl<D: Drop, K: BlockKey, T: BlockItem> ClosedBlocks<D, K, T> {
         ensures index { OnOk result (self.new.index ≡
             self.old.index ++ record { first = first; at = self.old.frames.len; len = length body.now + 20 } ∷ []) }
         ensures len { OnOk result (self.new.frames.len ≡ self.old.frames.len + length body.now + 20) }
+        ensures grows { OnOk result (index_length K.keys self.new.index ≡ index_length K.keys self.old.index + handle_length K.keys first) }
         ensures kept { OnErr result ((self.new.frames.len ≡ self.old.frames.len) × (self.new.index ≡ self.old.index)) }
         ensures refusals { IfErr result (λ fault. IsUnwritten fault) }
         ensures cause { HasCause Fault.WriteFault (F.faults port.old) (F.faults port.new) result }
+        ensures once { CountsOnce (F.faults port.old) (F.faults port.new) result }
     {
         let more = ClosedBlocks::<D, K, T>::handle_len(&first);
         self.index.push(BlockHandle {
@@ -140,9 +144,12 @@ impl<D: Drop, K: BlockKey, T: BlockItem> ClosedBlocks<D, K, T> {
         ensures footer { IfOk result (λ file. file.footer ≡
             footer_from T.form.filtered summary.now self.frames.len (index_length K.keys self.index) (length self.index)) }
         ensures index { IfOk result (λ file. file.index ≡ self.index) }
+        ensures kept { IfOk result (λ file. IsKept K.keys T.form file.footer file.index) }
         ensures id { IfOk result (λ file. file.file.id ≡ id) }
+        ensures small { IfOk result (λ file. file.file.len < 2 ^ 62) }
         ensures refusals { IfErr result (λ fault. IsUnwritten fault) }
         ensures cause { HasCause Fault.WriteFault (F.faults port.old) (F.faults port.new) result }
+        ensures once { CountsOnce (F.faults port.old) (F.faults port.new) result }
     {
         let ClosedBlocks {
             mut frames,
@@ -189,6 +196,7 @@ fn put_filter<F: Files>(
     ensures len { OnOk result (frames.new.len ≤ frames.old.len + length filter.now + 20) }
     ensures outside { IfErr result (λ fault. IsUnwritten fault) }
     ensures cause { HasCause Fault.WriteFault (F.faults port.old) (F.faults port.new) result }
+    ensures once { CountsOnce (F.faults port.old) (F.faults port.new) result }
 {
     if !filtered {
         return Ok(None);

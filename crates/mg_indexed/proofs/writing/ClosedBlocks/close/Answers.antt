@@ -1,4 +1,4 @@
-use Rattle.std.proofs.Common.{◌+◌, ◌<◌, ◌^◌, length, sym, ap, subst, arith}
+use Rattle.std.proofs.Common.{◌≡◌, ◌+◌, ◌<◌, ◌^◌, ◌∙◌, length, sym, ap, subst, arith}
 use Rattle.mg_indexed.specs.Index.{first_after}
 use Rattle.mg_indexed.specs.Writing.{handle_length, index_length, Closed}
 use Rattle.mg_indexed.specs.declared.handle.BlockHandle.{BlockHandle}
@@ -37,3 +37,11 @@ invariant_of-self-in-Err g c =
       stays keys g.T.BlockItem.form closed c.append_frame.new.writer c.pop.new.self c.self.invariant.0 c.in-Err.ensures.err.0 c.in-Err.ensures.err.1 same,
       omega (arith, c.self.invariant.1, ap (index_length keys) same),
     )
+
+pub returns-clause-grows : goal.returns-clause-grows
+returns-clause-grows g c =
+    let keys = g.K.BlockKey.keys in
+    let first = c.args.first in
+    let handle : BlockHandle g.row.K.Denot = record { first = first; at = c.len.result; len = length c.args.body.now + 20 } in
+    let Grown : Closed g.row.D.Denot g.row.K.Denot → Type 0 = λ w. index_length keys c.push.new.self ≡ index_length keys w.index + handle_length keys first in
+    subst Grown c.self.view_is (ap (index_length keys) c.in_ok-push.ensures.ok ∙ index_length-push keys c.self.inside.index handle)

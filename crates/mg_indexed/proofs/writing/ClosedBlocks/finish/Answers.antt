@@ -74,6 +74,21 @@ invariant_of-result g c =
     let some : inside.index ≢ [] = λ none. c.requires.some (sym (ap (λ (w : Closed g.row.D.Denot g.row.K.Denot). w.index) c.self.view_is) ∙ none) in
     kept keys form closed c.args.summary.now footer is some c.requires.summary said
 
+pub returns-clause-kept : goal.returns-clause-kept
+returns-clause-kept g c =
+    let keys = g.K.BlockKey.keys in
+    let form = g.T.BlockItem.form in
+    let inside = c.self.inside in
+    let closed : Closed g.row.D.Denot g.row.K.Denot = record { frames = inside.frames; index = inside.index } in
+    let is = c.self.invariant.0 in
+    let bytes : c.deref.result.now ≡ index_bytes keys inside.index = c.deref.ensures.value ∙ c.in_ok-index_bytes.ensures ∙ ap (index_bytes keys) c.as_slice.ensures in
+    let footer : Footer = record { count = c.args.summary.now.count; sum = c.args.summary.now.sum; low = c.args.summary.now.low; high = c.args.summary.now.high; index_at = c.in_ok-index_at.field-0.at; filter_at = c.in_ok-filter_at.filter_at; blocks = c.len.result } in
+    let said = said_is keys closed c.args.summary.now c.has_filter.result form.filtered c.in_ok-index_at.field-0.at c.in_ok-filter_at.filter_at c.len.result c.append_frame.new.writer.len footer refl
+    (ap (λ p. p.at) c.in_ok-index_at.ensures.placed) c.in_ok-filter_at.ensures.place c.has_filter.ensures
+    (c.in_ok-index_at.ensures.len ∙ ap (λ (xs : List ℕ). inside.frames.len + length xs + 20) bytes) c.len.ensures in
+    let some : inside.index ≢ [] = λ none. c.requires.some (sym (ap (λ (w : Closed g.row.D.Denot g.row.K.Denot). w.index) c.self.view_is) ∙ none) in
+    kept keys form closed c.args.summary.now footer is some c.requires.summary said
+
 pub returns-clause-bytes : goal.returns-clause-bytes
 returns-clause-bytes g c = λ bodies has.
     let keys = g.K.BlockKey.keys in
@@ -141,3 +156,14 @@ returns-clause-indexed g c = λ bodies has.
       finished keys form drafted closed c.args.summary.now c.args.filter.now footer bodies bytes is some c.requires.summary said put (spelled ∙ ap numbered_frames same),
       ap length (spelled ∙ ap numbered_frames same) ∙ sym long,
     )) (c.in_ok-file.ensures.frames all sealed)
+
+pub returns-clause-small : goal.returns-clause-small
+returns-clause-small g c =
+    let keys = g.K.BlockKey.keys in
+    let inside = c.self.inside in
+    let closed : Closed g.row.D.Denot g.row.K.Denot = record { frames = inside.frames; index = inside.index } in
+    let is = c.self.invariant.0 in
+    let bytes : c.deref.result.now ≡ index_bytes keys inside.index = c.deref.ensures.value ∙ c.in_ok-index_bytes.ensures ∙ ap (index_bytes keys) c.as_slice.ensures in
+    let footer : Footer = record { count = c.args.summary.now.count; sum = c.args.summary.now.sum; low = c.args.summary.now.low; high = c.args.summary.now.high; index_at = c.in_ok-index_at.field-0.at; filter_at = c.in_ok-filter_at.filter_at; blocks = c.len.result } in
+    let short = short_footer c.has_filter.result footer c.append_frame.new.writer.len c.deref-2.result.now (c.deref-2.ensures.value ∙ c.in_ok-footer_body.ensures) c.in_ok-filter_at.ensures.place in
+    omega (arith, c.in_ok-file.ensures.len, c.in_ok-append_frame.ensures.len, short, most_length keys g.T.BlockItem.form closed is, is.few, ap length bytes, c.in_ok-index_at.ensures.len, c.in_ok-filter_at.ensures.len, c.requires.filter)
