@@ -18,18 +18,18 @@ use Rattle.mg_table.specs.Entries.{block_body, pair_of, payload_of, AreEntries}
 use Rattle.mg_types.specs.Items.{IsEntry}
 use Rattle.mg_table.specs.Reading.{read_at, AreRead, HasBody, IsBlockRefused, IsFindRead, IsFindRefused, IsListUnfit, IsPayloadRefused, IsRefusedAt, BeginsWithKey, IsFindUnfit, IsSoughtIn}
 use Rattle.mg_types.specs.declared.items.Entry.{Entry}
-use Rattle.mg_table.specs.declared.index.BlockHandle.{BlockHandle}
+use Rattle.mg_indexed.specs.declared.handle.BlockHandle.{BlockHandle}
 use Rattle.mg_table.specs.declared.table.Table.{Table}
 use Rattle.mg_table.proofs.ListingLaws.{Lists, no_pair}
-use Rattle.mg_table.proofs.RefusalLaws.{under_then, Under}
+use Rattle.mg_indexed.proofs.LoadingSteps.{Under, under_then}
 
 -- ---- a block
 
 -- what is said of a block's body
 abbrev pub OfBody : Type 1
-OfBody = BlockHandle → List ℕ → Fault → Type 0
+OfBody = BlockHandle (List ℕ) → List ℕ → Fault → Type 0
 
-pub frame_refused : {S : Type 0} (told : Option (List ℕ)) (table : Table S) (k : ℕ) (handle : BlockHandle) (Unfit : OfBody) (fault : Fault) → k < length table.index
+pub frame_refused : {S : Type 0} (told : Option (List ℕ)) (table : Table S) (k : ℕ) (handle : BlockHandle (List ℕ)) (Unfit : OfBody) (fault : Fault) → k < length table.index
     → handle ≡ get_or table.index k handle → Under told table.file.len (λ bytes. Answers (read_at table.file.id bytes handle k) (Err fault))
     → Under told table.file.len (λ bytes. IsOutside fault ⊎ IsBlockRefused table bytes k Unfit fault)
 frame_refused told table k handle Unfit fault within there known =
@@ -39,7 +39,7 @@ frame_refused told table k handle Unfit fault within there known =
       | inr is ↦ inr (within, at_read table.index (IsRefusedAt table.file.id bytes k Unfit fault) k handle within there (inl is))
     ]) known
 
-pub body_refused : {S : Type 0} (told : Option (List ℕ)) (table : Table S) (k : ℕ) (handle : BlockHandle) (Unfit : OfBody) (fault : Fault) (frame : List ℕ) → k < length table.index
+pub body_refused : {S : Type 0} (told : Option (List ℕ)) (table : Table S) (k : ℕ) (handle : BlockHandle (List ℕ)) (Unfit : OfBody) (fault : Fault) (frame : List ℕ) → k < length table.index
     → handle ≡ get_or table.index k handle → (fault ≡ NoMemory) ⊎ Unfit handle frame fault → Under told table.file.len (λ bytes. read_at table.file.id bytes handle k ≡ Ok frame)
     → Under told table.file.len (λ bytes. IsOutside fault ⊎ IsBlockRefused table bytes k Unfit fault)
 body_refused told table k handle Unfit fault frame within there why known =
@@ -51,22 +51,22 @@ body_refused told table k handle Unfit fault frame within there why known =
 
 -- a block that is refused keeps its table from finding a key
 pub find_refused : {S : Type 0} (told : Option (List ℕ)) (table : Table S) (key : List ℕ) (k : ℕ) (fault : Fault) → IsSoughtIn table key k
-    → Under told table.file.len (λ bytes. IsOutside fault ⊎ IsBlockRefused table bytes k (λ (p : BlockHandle) body. IsFindUnfit table.file.id p body key) fault)
+    → Under told table.file.len (λ bytes. IsOutside fault ⊎ IsBlockRefused table bytes k (λ (p : BlockHandle (List ℕ)) body. IsFindUnfit table.file.id p body key) fault)
     → Under told table.file.len (λ bytes. IsOutside fault ⊎ IsFindRefused table bytes key fault)
 find_refused told table key k fault sought known =
-    under_then told table.file.len (λ bytes. IsOutside fault ⊎ IsBlockRefused table bytes k (λ (p : BlockHandle) body. IsFindUnfit table.file.id p body key) fault)
+    under_then told table.file.len (λ bytes. IsOutside fault ⊎ IsBlockRefused table bytes k (λ (p : BlockHandle (List ℕ)) body. IsFindUnfit table.file.id p body key) fault)
     (λ bytes. IsOutside fault ⊎ IsFindRefused table bytes key fault)
     (λ bytes same h. elim h [ inl outside ↦ inl outside | inr is ↦ inr (k, sought, is) ]) known
 
 -- what is so of the body that was read is so of a body at the handle in the index
-body-at : {S : Type 0} (table : Table S) (bytes : List ℕ) (k : ℕ) (handle : BlockHandle) (frame : List ℕ) (P : List ℕ → Type 0) → k < length table.index
-    → handle ≡ get_or table.index k handle → read_at table.file.id bytes handle k ≡ Ok frame → BeginsWithKey frame handle.key → P frame → HasBody table bytes k P
+body-at : {S : Type 0} (table : Table S) (bytes : List ℕ) (k : ℕ) (handle : BlockHandle (List ℕ)) (frame : List ℕ) (P : List ℕ → Type 0) → k < length table.index
+    → handle ≡ get_or table.index k handle → read_at table.file.id bytes handle k ≡ Ok frame → BeginsWithKey frame handle.first → P frame → HasBody table bytes k P
 body-at table bytes k handle frame P within there read begins is =
-    at_read table.index (λ (p : BlockHandle). (body : List ℕ) × (read_at table.file.id bytes p k ≡ Ok body) × BeginsWithKey body p.key × P body) k handle within there
+    at_read table.index (λ (p : BlockHandle (List ℕ)). (body : List ℕ) × (read_at table.file.id bytes p k ≡ Ok body) × BeginsWithKey body p.first × P body) k handle within there
     (frame, read, begins, is)
 
-pub find_read : {S : Type 0} (told : Option (List ℕ)) (table : Table S) (key : List ℕ) (k : ℕ) (handle : BlockHandle) (frame : List ℕ) (found : Option Entry) → IsSoughtIn table key k
-    → handle ≡ get_or table.index k handle → BeginsWithKey frame handle.key
+pub find_read : {S : Type 0} (told : Option (List ℕ)) (table : Table S) (key : List ℕ) (k : ℕ) (handle : BlockHandle (List ℕ)) (frame : List ℕ) (found : Option Entry) → IsSoughtIn table key k
+    → handle ≡ get_or table.index k handle → BeginsWithKey frame handle.first
     → MatchOption found (Misses frame key) (λ entry. (entry.key ≡ key) × IsEntry entry × Finds frame key (payload_of entry))
     → Under told table.file.len (λ bytes. read_at table.file.id bytes handle k ≡ Ok frame) → Under told table.file.len (λ bytes. IsFindRead table bytes key found)
 find_read told table key k handle frame None sought there begins misses read =
@@ -103,10 +103,10 @@ list-read block cursor before now lists is =
 -- ---- all blocks
 
 -- the block of this number is read, and stands there as a frame
-abbrev pub IsReadAt : FileId → List ℕ → BlockHandle → List Entry → ℕ → Type 0
+abbrev pub IsReadAt : FileId → List ℕ → BlockHandle (List ℕ) → List Entry → ℕ → Type 0
 IsReadAt id bytes handle block number = (read_at id bytes handle number ≡ Ok (block_body block)) × StandsAt bytes handle.at (number, block_body block)
 
-pub read-push : (id : FileId) (bytes : List ℕ) (n : ℕ) (handles : List BlockHandle) (blocks : List (List Entry)) (handle : BlockHandle) (block : List Entry) → AreRead id bytes n handles blocks
+pub read-push : (id : FileId) (bytes : List ℕ) (n : ℕ) (handles : List (BlockHandle (List ℕ))) (blocks : List (List Entry)) (handle : BlockHandle (List ℕ)) (block : List Entry) → AreRead id bytes n handles blocks
     → IsReadAt id bytes handle block (n + length handles) → AreEntries block → AreRead id bytes n (handles ++ handle ∷ []) (blocks ++ block ∷ [])
 read-push id bytes n [] [] handle block are read is =
     let here = subst (IsReadAt id bytes handle block) (omega arith) read in
@@ -116,7 +116,7 @@ read-push id bytes n (p ∷ handles) [] handle block are read is = absurd are
 read-push id bytes n (p ∷ handles) (other ∷ blocks) handle block are read is =
     (are.0, are.1, are.2, read-push id bytes (n + 1) handles blocks handle block are.3 (subst (IsReadAt id bytes handle block) (omega arith) read) is)
 
-pub read-length : (id : FileId) (bytes : List ℕ) (n : ℕ) (handles : List BlockHandle) (blocks : List (List Entry)) → AreRead id bytes n handles blocks → length blocks ≡ length handles
+pub read-length : (id : FileId) (bytes : List ℕ) (n : ℕ) (handles : List (BlockHandle (List ℕ))) (blocks : List (List Entry)) → AreRead id bytes n handles blocks → length blocks ≡ length handles
 read-length id bytes n [] [] are = refl
 read-length id bytes n [] (block ∷ blocks) are = absurd are
 read-length id bytes n (handle ∷ handles) [] are = absurd are

@@ -22,7 +22,7 @@ use Rattle.mg_table.specs.Index.{handles_from}
 use Rattle.mg_table.specs.Reading.{entry_of, IsSoughtIn, IsSoughtNowhere}
 use Rattle.mg_table.specs.Table.{hashed_keys, IsTableOf}
 use Rattle.mg_types.specs.declared.items.Entry.{Entry}
-use Rattle.mg_table.specs.declared.index.BlockHandle.{BlockHandle}
+use Rattle.mg_indexed.specs.declared.handle.BlockHandle.{BlockHandle}
 use Rattle.mg_table.specs.declared.table.Table.{Table}
 use Rattle.mg_table.proofs.LoadingLaws.{length-handles_from}
 use Rattle.mg_table.proofs.ReadingLaws.{handle-at, RiseAfter-behind}
@@ -111,42 +111,42 @@ none-denied key filter entries is denied =
 -- ---- by the index
 
 -- Behind so many blocks one begins above the key, and the last of these does not.
-pub record Between (index : List BlockHandle) (key : List ℕ) (low high : ℕ) : Type 0 where
+pub record Between (index : List (BlockHandle (List ℕ))) (key : List ℕ) (low high : ℕ) : Type 0 where
   pub order : low ≤ high
   pub within : high ≤ length index
-  pub last : 0 < low → HoldsAt (λ handle. Precedes key handle.key → ⊥) index (low - 1)
-  pub following : high < length index → HoldsAt (λ handle. Precedes key handle.key) index high
+  pub last : 0 < low → HoldsAt (λ handle. Precedes key handle.first → ⊥) index (low - 1)
+  pub following : high < length index → HoldsAt (λ handle. Precedes key handle.first) index high
 
-key-at : (blocks : List (List Entry)) (k : ℕ) (p : BlockHandle) → k < length blocks → (get_or (handles_from 0 blocks) k p).key ≡ first_key (get_or blocks k [])
-key-at blocks k p within = ap (λ (handle : BlockHandle). handle.key) (handle-at 0 blocks k p [] within)
+key-at : (blocks : List (List Entry)) (k : ℕ) (p : BlockHandle (List ℕ)) → k < length blocks → (get_or (handles_from 0 blocks) k p).first ≡ first_key (get_or blocks k [])
+key-at blocks k p within = ap (λ (handle : BlockHandle (List ℕ)). handle.first) (handle-at 0 blocks k p [] within)
 
-no_place : BlockHandle
-no_place = record { key = []; at = 0; len = 0 }
+no_place : BlockHandle (List ℕ)
+no_place = record { first = []; at = 0; len = 0 }
 
-pub none-of : (lo hi : ℕ) (entries : List Entry) (blocks : List (List Entry)) (filter key : List ℕ) (index : List BlockHandle)
-    → IsTableOf lo hi entries blocks filter → index ≡ handles_from 0 blocks → (0 < length index → HoldsAt (λ handle. Precedes key handle.key) index 0) → entry_of key entries ≡ None
+pub none-of : (lo hi : ℕ) (entries : List Entry) (blocks : List (List Entry)) (filter key : List ℕ) (index : List (BlockHandle (List ℕ)))
+    → IsTableOf lo hi entries blocks filter → index ≡ handles_from 0 blocks → (0 < length index → HoldsAt (λ handle. Precedes key handle.first) index 0) → entry_of key entries ≡ None
 none-of lo hi entries blocks filter key index is indexed following =
     let same = ap length indexed ∙ length-handles_from 0 blocks in
     ap (entry_of key) (sym is.listed.whole)
     ∙ none-following key [] blocks (subst (λ es. AreRising (map pair_of es)) (sym is.listed.whole) is.listed.rising.rising) is.listed.filled
-    (λ some. subst (λ (k : List ℕ). Precedes key k) (key-at blocks 0 no_place some) (subst (λ ps. Precedes key (get_or ps 0 no_place).key) indexed (following (omega (arith, same)) no_place)))
+    (λ some. subst (λ (k : List ℕ). Precedes key k) (key-at blocks 0 no_place some) (subst (λ ps. Precedes key (get_or ps 0 no_place).first) indexed (following (omega (arith, same)) no_place)))
 
-pub one-of : (lo hi : ℕ) (entries : List Entry) (blocks : List (List Entry)) (filter key : List ℕ) (index : List BlockHandle) (k : ℕ)
+pub one-of : (lo hi : ℕ) (entries : List Entry) (blocks : List (List Entry)) (filter key : List ℕ) (index : List (BlockHandle (List ℕ))) (k : ℕ)
     → IsTableOf lo hi entries blocks filter → index ≡ handles_from 0 blocks → k < length index
-    → HoldsAt (λ handle. Precedes key handle.key → ⊥) index k → (k + 1 < length index → HoldsAt (λ handle. Precedes key handle.key) index (k + 1))
+    → HoldsAt (λ handle. Precedes key handle.first → ⊥) index k → (k + 1 < length index → HoldsAt (λ handle. Precedes key handle.first) index (k + 1))
     → HoldsAt (λ block. entry_of key entries ≡ entry_of key block) blocks k
 one-of lo hi entries blocks filter key index k is indexed within last following = λ d.
     let same = ap length indexed ∙ length-handles_from 0 blocks in
     let inside : k < length blocks = omega (arith, same) in
     ap (entry_of key) (sym is.listed.whole)
     ∙ found-in key [] blocks k (subst (λ es. AreRising (map pair_of es)) (sym is.listed.whole) is.listed.rising.rising) is.listed.filled inside
-    (λ above. last no_place (subst (λ ps. Precedes key (get_or ps k no_place).key) (sym indexed) (subst (λ (x : List ℕ). Precedes key x) (sym (key-at blocks k no_place inside)) above)))
+    (λ above. last no_place (subst (λ ps. Precedes key (get_or ps k no_place).first) (sym indexed) (subst (λ (x : List ℕ). Precedes key x) (sym (key-at blocks k no_place inside)) above)))
     (λ more.
     let step : k + 1 ≡ suc k = omega arith in
     let within : k + 1 < length blocks = omega (arith, more) in
     subst (λ (n : ℕ). Precedes key (first_key (get_or blocks n []))) step
     (subst (λ (x : List ℕ). Precedes key x) (key-at blocks (k + 1) no_place within)
-    (subst (λ ps. Precedes key (get_or ps (k + 1) no_place).key) indexed (following (omega (arith, same)) no_place))))
+    (subst (λ ps. Precedes key (get_or ps (k + 1) no_place).first) indexed (following (omega (arith, same)) no_place))))
     d
 
 zero-from : (n : ℕ) → (1 ≤ n → ⊥) → n ≡ 0
@@ -154,40 +154,40 @@ zero-from zero none = refl
 zero-from (suc n) none = absurd (none (omega arith))
 
 -- the block before so many, if any is
-pub chosen : (lo hi : ℕ) (entries : List Entry) (blocks : List (List Entry)) (filter key : List ℕ) (index : List BlockHandle) (n : ℕ) (number : Option ℕ)
+pub chosen : (lo hi : ℕ) (entries : List Entry) (blocks : List (List Entry)) (filter key : List ℕ) (index : List (BlockHandle (List ℕ))) (n : ℕ) (number : Option ℕ)
     → IsTableOf lo hi entries blocks filter → index ≡ handles_from 0 blocks → n ≤ length index
-    → (0 < n → HoldsAt (λ handle. Precedes key handle.key → ⊥) index (n - 1)) → (n < length index → HoldsAt (λ handle. Precedes key handle.key) index n)
+    → (0 < n → HoldsAt (λ handle. Precedes key handle.first → ⊥) index (n - 1)) → (n < length index → HoldsAt (λ handle. Precedes key handle.first) index n)
     → SomeIff number (1 ≤ n) (n - 1)
     → MatchOption number (entry_of key entries ≡ None) (λ number. HoldsAt (λ block. entry_of key entries ≡ entry_of key block) blocks number)
 chosen lo hi entries blocks filter key index n None is indexed within last following before =
     let none : n ≡ 0 = zero-from n before in
     none-of lo hi entries blocks filter key index is indexed
-    (λ some. subst (λ (k : ℕ). HoldsAt (λ (handle : BlockHandle). Precedes key handle.key) index k) none (following (omega arith)))
+    (λ some. subst (λ (k : ℕ). HoldsAt (λ (handle : BlockHandle (List ℕ)). Precedes key handle.first) index k) none (following (omega arith)))
 chosen lo hi entries blocks filter key index n (Some number) is indexed within last following before =
     let back : n - 1 ≡ number = sym before.1 in
     let step : n ≡ number + 1 = omega (arith, before.0) in
     one-of lo hi entries blocks filter key index number is indexed (omega arith)
-    (subst (λ (k : ℕ). HoldsAt (λ (handle : BlockHandle). Precedes key handle.key → ⊥) index k) back (last (omega (arith, before.0))))
-    (λ more. subst (λ (k : ℕ). HoldsAt (λ (handle : BlockHandle). Precedes key handle.key) index k) step (following (omega arith)))
+    (subst (λ (k : ℕ). HoldsAt (λ (handle : BlockHandle (List ℕ)). Precedes key handle.first → ⊥) index k) back (last (omega (arith, before.0))))
+    (λ more. subst (λ (k : ℕ). HoldsAt (λ (handle : BlockHandle (List ℕ)). Precedes key handle.first) index k) step (following (omega arith)))
 
 -- where the key is sought, if in any block
-pub sought : {S : Type 0} (table : Table S) (key : List ℕ) (index : List BlockHandle) (n : ℕ) (number : Option ℕ) → index ≡ table.index → has_words table.filter (key_words key) ≡ true
-    → n ≤ length index → (0 < n → HoldsAt (λ handle. Precedes key handle.key → ⊥) index (n - 1)) → (n < length index → HoldsAt (λ handle. Precedes key handle.key) index n)
+pub sought : {S : Type 0} (table : Table S) (key : List ℕ) (index : List (BlockHandle (List ℕ))) (n : ℕ) (number : Option ℕ) → index ≡ table.index → has_words table.filter (key_words key) ≡ true
+    → n ≤ length index → (0 < n → HoldsAt (λ handle. Precedes key handle.first → ⊥) index (n - 1)) → (n < length index → HoldsAt (λ handle. Precedes key handle.first) index n)
     → SomeIff number (1 ≤ n) (n - 1) → MatchOption number (IsSoughtNowhere table key) (λ number. IsSoughtIn table key number)
 sought table key index n None same held within last following before =
     let none : n ≡ 0 = zero-from n before in
-    inr (subst (λ (ps : List BlockHandle). 0 < length ps → HoldsAt (λ (handle : BlockHandle). Precedes key handle.key) ps 0) same
-    (λ some. subst (λ (k : ℕ). HoldsAt (λ (handle : BlockHandle). Precedes key handle.key) index k) none (following (omega arith))))
+    inr (subst (λ (ps : List (BlockHandle (List ℕ))). 0 < length ps → HoldsAt (λ (handle : BlockHandle (List ℕ)). Precedes key handle.first) ps 0) same
+    (λ some. subst (λ (k : ℕ). HoldsAt (λ (handle : BlockHandle (List ℕ)). Precedes key handle.first) index k) none (following (omega arith))))
 sought table key index n (Some number) same held within last following before =
     let back : n - 1 ≡ number = sym before.1 in
     let step : n ≡ number + 1 = omega (arith, before.0) in
     record {
       held = held;
       within = omega (arith, ap length same);
-      last = subst (λ (ps : List BlockHandle). HoldsAt (λ (handle : BlockHandle). Precedes key handle.key → ⊥) ps number) same
-          (subst (λ (k : ℕ). HoldsAt (λ (handle : BlockHandle). Precedes key handle.key → ⊥) index k) back (last (omega (arith, before.0))));
-      following = subst (λ (ps : List BlockHandle). number + 1 < length ps → HoldsAt (λ (handle : BlockHandle). Precedes key handle.key) ps (number + 1)) same
-          (λ more. subst (λ (k : ℕ). HoldsAt (λ (handle : BlockHandle). Precedes key handle.key) index k) step (following (omega arith)));
+      last = subst (λ (ps : List (BlockHandle (List ℕ))). HoldsAt (λ (handle : BlockHandle (List ℕ)). Precedes key handle.first → ⊥) ps number) same
+          (subst (λ (k : ℕ). HoldsAt (λ (handle : BlockHandle (List ℕ)). Precedes key handle.first → ⊥) index k) back (last (omega (arith, before.0))));
+      following = subst (λ (ps : List (BlockHandle (List ℕ))). number + 1 < length ps → HoldsAt (λ (handle : BlockHandle (List ℕ)). Precedes key handle.first) ps (number + 1)) same
+          (λ more. subst (λ (k : ℕ). HoldsAt (λ (handle : BlockHandle (List ℕ)). Precedes key handle.first) index k) step (following (omega arith)));
     }
 
 -- ---- the entry of a payload

@@ -11,7 +11,6 @@ pub mod ListingLaws
 pub mod LoadingLaws
 pub mod OneFileLaws
 pub mod PayloadLaws
-pub mod PlaceLaws
 pub mod ReadingLaws
 pub mod RefusalLaws
 pub mod ScanLaws

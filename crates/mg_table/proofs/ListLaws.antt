@@ -1,32 +1,31 @@
 -- Bytes are the table of one list of entries over one interval.
-use Rattle.std.proofs.Common.{◌≡◌, ℕ, ◌+◌, ◌<◌, ◌^◌, Bool, List, [], ◌∷◌, ◌++◌, length, map, drop, refl, sym, ap, ◌∙◌, arith, append_assoc, Ok}
+use Rattle.std.proofs.Common.{true, ◌≡◌, ℕ, ◌+◌, ◌<◌, ◌^◌, Bool, List, [], ◌∷◌, ◌++◌, length, map, drop, refl, sym, ap, ◌∙◌, arith, append_assoc, Ok}
 use Rattle.std.proofs.lemmas.List.{drop_at, length-append, length-map, map-append}
 use Rattle.std.proofs.lemmas.List.Elements.{All-append, All-cons, All-head, All-nil, All-tail}
 use Rattle.std.specs.List.{All}
 use Rattle.mg_block.specs.View.{pairs_of}
 use Rattle.mg_block.specs.declared.pair.Pair.{Pair}
 use Rattle.mg_block.proofs.Spelling.{pairs_of-block_of}
-use Rattle.mg_frame.specs.BigEndian.{big_endian}
-use Rattle.mg_frame.proofs.BigEndianLaws.{length-big_endian}
-use Rattle.mg_frame.proofs.SplitLaws.{one_number}
 use Rattle.mg_types.specs.declared.keys.Key.{Key}
 use Rattle.mg_sealed.specs.Filling.{items_of}
 use Rattle.mg_sealed.specs.Lists.{FitFrames}
 use Rattle.mg_sealed.proofs.ListLaws.{one_list_of_frames, same_parts}
 use Rattle.mg_table.specs.Entries.{block_body, first_key, pair_of, payload_of}
 use Rattle.mg_types.specs.Items.{IsEntry}
-use Rattle.mg_table.specs.Footer.{counts_bytes, footer_bytes, offsets_bytes, IsFooter}
-use Rattle.mg_table.specs.Index.{frame_length, index_bytes, handles_from, IsIndexFrom}
+use Rattle.mg_indexed.specs.Footer.{footer_bytes, IsFooter}
+use Rattle.mg_table.specs.Index.{frame_length, handles_from}
+use Rattle.mg_indexed.specs.Index.{index_bytes, IsIndexFrom}
+use Rattle.mg_indexed.specs.TableKeys.{table_keys}
+use Rattle.mg_indexed.specs.Forms.{table_form}
 use Rattle.mg_table.specs.Lists.{OneTable}
 use Rattle.mg_table.specs.Payload.{judged_payload, numbers_of}
 use Rattle.mg_table.specs.Table.{footer_of, hashed_keys, table_bodies, IsTableOf}
 use Rattle.mg_types.specs.declared.items.Entry.{Entry}
 use Rattle.mg_table.specs.declared.entry.Payload.{Payload}
-use Rattle.mg_table.specs.declared.footer.Footer.{Footer}
-use Rattle.mg_table.proofs.FinishLaws.{length-footer_bytes}
+use Rattle.mg_indexed.specs.declared.footer.Footer.{Footer}
+use Rattle.mg_indexed.proofs.FieldLaws.{footer_fits, length-footer_bytes, one_footer}
 use Rattle.mg_table.proofs.LoadingLaws.{few_blocks, filter_is_body, footer_of_is_footer, index_of_table}
 use Rattle.mg_table.proofs.PayloadLaws.{payload-read}
-use Rattle.mg_table.proofs.PlaceLaws.{footer_parts}
 
 -- ---- the bodies of a table fit frames
 
@@ -34,21 +33,21 @@ use Rattle.mg_table.proofs.PlaceLaws.{footer_parts}
 Small : List ℕ → Type 0
 Small body = length body < 2 ^ 32
 
-small_blocks : (key : List ℕ) (at : ℕ) (blocks : List (List Entry)) (end : ℕ) → IsIndexFrom key at (handles_from at blocks) end → All Small (map block_body blocks)
+small_blocks : (key : List ℕ) (at : ℕ) (blocks : List (List Entry)) (end : ℕ) → IsIndexFrom table_keys table_form key at (handles_from at blocks) end → All Small (map block_body blocks)
 unfolding Small
 small_blocks key at [] end is = All-nil Small
 small_blocks key at (b ∷ blocks) end is =
-    All-cons Small (block_body b) (map block_body blocks) (omega (arith, is.4)) (small_blocks (first_key b) (at + frame_length b) blocks end is.5)
+    All-cons Small (block_body b) (map block_body blocks) (omega (arith, is.0.3.2)) (small_blocks (first_key b) (at + frame_length b) blocks end is.1)
 
 fit_frames : (lo hi : ℕ) (entries : List Entry) (blocks : List (List Entry)) (filter : List ℕ) → IsTableOf lo hi entries blocks filter → FitFrames (table_bodies lo hi blocks filter)
 unfolding Small
 fit_frames lo hi entries blocks filter parts =
     let before = map block_body blocks in
-    let index = index_bytes (handles_from 0 blocks) in
+    let index = index_bytes table_keys (handles_from 0 blocks) in
     let footer = footer_bytes (footer_of lo hi blocks filter) in
     let handles = index_of_table lo hi entries blocks filter parts in
     let small' : length filter < 2 ^ 32 = omega (arith, (filter_is_body (hashed_keys entries) filter parts.filtered).at_most) in
-    let small'' : length footer < 2 ^ 32 = omega (arith, length-footer_bytes (footer_of lo hi blocks filter)) in
+    let small'' : length footer < 2 ^ 32 = omega (arith, length-footer_bytes true (footer_of lo hi blocks filter) refl) in
     record {
       few = omega (arith, few_blocks blocks parts.listed.few, length-append before (index ∷ filter ∷ footer ∷ []), length-map blocks block_body);
       small = All-append Small before (index ∷ filter ∷ footer ∷ []) (small_blocks [] 0 blocks _ handles)
@@ -98,31 +97,6 @@ same_entries (entry ∷ entries) (other ∷ others) each each' same =
     let rest = same_entries entries others (All-tail IsEntry entry entries each) (All-tail IsEntry other others each') pairs in
     cc (first, rest)
 
--- ---- the interval
-
-length-counts : (footer : Footer) → length (counts_bytes footer) ≡ 17
-length-counts footer =
-    omega (
-      arith,
-      length-append (big_endian 1 1 ++ big_endian 8 footer.entries) (big_endian 8 footer.sizes),
-      length-append (big_endian 1 1) (big_endian 8 footer.entries),
-      length-big_endian 1 1,
-      length-big_endian 8 footer.entries,
-      length-big_endian 8 footer.sizes,
-    )
-
--- the interval stands behind the counts
-span_follows : (footer : Footer) → drop 17 (footer_bytes footer) ≡ big_endian 8 footer.lo ++ (big_endian 8 footer.hi ++ (offsets_bytes footer ++ []))
-span_follows footer =
-    ap (drop 17) (footer_parts footer) ∙ drop_at (counts_bytes footer) _ 17 (length-counts footer)
-    ∙ append_assoc (big_endian 8 footer.lo) (big_endian 8 footer.hi) (offsets_bytes footer ++ [])
-
-same_span : (footer other : Footer) → IsFooter footer → IsFooter other → footer_bytes footer ≡ footer_bytes other → (footer.lo ≡ other.lo) × (footer.hi ≡ other.hi)
-same_span footer other is is' same =
-    let low = one_number 8 footer.lo other.lo _ _ (omega (arith, is.lo)) (omega (arith, is'.lo)) (sym (span_follows footer) ∙ ap (drop 17) same ∙ span_follows other) in
-    let high = one_number 8 footer.hi other.hi _ _ (omega (arith, is.hi)) (omega (arith, is'.hi)) low.1 in
-    (low.0, high.0)
-
 -- ---- a table
 
 pub one_table : OneTable
@@ -134,7 +108,9 @@ one_table bytes lo hi entries lo' hi' others is is' =
     let parts = same_parts (map block_body is.blocks) (map block_body is'.blocks) _ _ refl frames in
     let tails = parts.1 in
     let footer : footer_bytes (footer_of lo hi is.blocks is.filter) ≡ footer_bytes (footer_of lo' hi' is'.blocks is'.filter) = cc in
-    let span = same_span (footer_of lo hi is.blocks is.filter) (footer_of lo' hi' is'.blocks is'.filter) (footer_of_is_footer lo hi entries is.blocks is.filter p)
-    (footer_of_is_footer lo' hi' others is'.blocks is'.filter p') footer in
+    let one = footer_of lo hi is.blocks is.filter in
+    let other = footer_of lo' hi' is'.blocks is'.filter in
+    let same = one_footer true one other (footer_fits true one (footer_of_is_footer lo hi entries is.blocks is.filter p))
+    (footer_fits true other (footer_of_is_footer lo' hi' others is'.blocks is'.filter p')) footer in
     let pairs : map pair_of entries ≡ map pair_of others = ap (map pair_of) (sym p.listed.whole) ∙ same_pairs is.blocks is'.blocks parts.0 ∙ ap (map pair_of) p'.listed.whole in
-    (same_entries entries others p.listed.rising.each p'.listed.rising.each pairs, span.0, span.1)
+    (same_entries entries others p.listed.rising.each p'.listed.rising.each pairs, ap (λ (f : Footer). f.low) same, ap (λ (f : Footer). f.high) same)

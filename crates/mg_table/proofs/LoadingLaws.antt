@@ -1,39 +1,39 @@
 -- The footer, the index and the filter of a table are those that a loader asks for.
-use Rattle.std.proofs.Common.{◌≡◌, ◌≢◌, ℕ, ◌+◌, ◌-◌, ◌*◌, ◌/◌, ◌<◌, ◌≤◌, ◌^◌, ◌⊎◌, suc, List, [], ◌∷◌, ◌++◌, length, map, take, drop, refl, sym, ap, ◌∙◌, subst, inl, inr, arith, append_assoc, Ok}
-use Rattle.std.proofs.Math.Nat.{mod-eq_of_lt}
-use Rattle.std.proofs.lemmas.List.{length-append, length-map, drop_at, take_all}
+use Rattle.std.proofs.Common.{true, ◌≡◌, ◌≢◌, ℕ, ◌+◌, ◌-◌, ◌*◌, ◌/◌, ◌<◌, ◌≤◌, ◌^◌, ◌⊎◌, suc, List, [], ◌∷◌, ◌++◌, length, map, refl, sym, ap, ◌∙◌, subst, inl, inr, arith, append_assoc, Ok}
+use Rattle.std.proofs.lemmas.List.{length-append, length-drop, length-map}
 use Rattle.std.proofs.lemmas.List.Elements.{All-cons, All-head, All-nil, All-tail}
 use Rattle.std.proofs.lemmas.List.Sums.{sum_by-cons}
 use Rattle.std.specs.List.{All}
-use Rattle.mg_block.specs.Block.{Precedes, RiseAfter}
-use Rattle.mg_block.proofs.Order.{Precedes-trans}
+use Rattle.mg_block.specs.Block.{item_of, items_after, shared_len, Follows, Precedes, RiseAfter}
+use Rattle.mg_block.proofs.Order.{Extends-from_Precedes, Precedes-trans}
 use Rattle.mg_block.proofs.Spelling.{length-items_after}
+use Rattle.mg_block.proofs.Views.{length-item_of-pair}
 use Rattle.mg_bloom.specs.Bloom.{IsBodyLength}
 use Rattle.mg_bloom.proofs.BloomLaws.{IsBodyLength-bits}
-use Rattle.mg_frame.specs.BigEndian.{big_endian, big_endian_value}
 use Rattle.mg_frame.specs.Frame.{frame}
 use Rattle.mg_frame.specs.Frames.{numbered_frames}
-use Rattle.mg_frame.proofs.BigEndianLaws.{length-big_endian, big_endian_value-big_endian}
 use Rattle.mg_frame.proofs.FrameLaws.{length-frame}
 use Rattle.mg_types.specs.declared.names.FileId.{FileId}
 use Rattle.mg_sealed.specs.Filling.{Fits, AreFilled, items_of}
-use Rattle.mg_sealed.specs.Footer.{footer_body, said_blocks}
 use Rattle.mg_sealed.specs.Reading.{frame_body}
-use Rattle.mg_sealed.proofs.FooterLaws.{written_footer_is_read}
 use Rattle.mg_sealed.proofs.WritingLaws.{numbered-more}
 use Rattle.mg_sealed.proofs.WrittenLaws.{written_frame_is_read}
 use Rattle.mg_table.specs.Entries.{block_body, pair_of}
 use Rattle.mg_types.specs.Items.{IsEntry}
 use Rattle.mg_table.specs.Filters.{IsFilterOf}
-use Rattle.mg_table.specs.Footer.{counts_bytes, footer_bytes, span_bytes, IsFooter}
-use Rattle.mg_table.specs.Index.{frame_length, index_bytes, handles_from, IsIndexFrom, IsHandle}
-use Rattle.mg_table.specs.Table.{footer_of, hashed_keys, sizes_of, table_bodies, IsTableOf}
+use Rattle.mg_indexed.specs.Footer.{footer_bytes, offset_of, IsFooter}
+use Rattle.mg_indexed.specs.Loading.{IsIndexed}
+use Rattle.mg_table.specs.Index.{frame_length, handles_from, IsHandle}
+use Rattle.mg_indexed.specs.Index.{index_bytes, IsIndexFrom}
+use Rattle.mg_indexed.specs.TableKeys.{table_keys}
+use Rattle.mg_indexed.specs.Forms.{table_form, IsFrameLength}
+use Rattle.mg_table.specs.Table.{footer_of, hashed_keys, sizes_of, table_bodies, IsTable, IsTableOf}
 use Rattle.mg_types.specs.declared.items.Entry.{Entry}
-use Rattle.mg_table.specs.declared.footer.Footer.{Footer}
-use Rattle.mg_table.specs.declared.index.BlockHandle.{BlockHandle}
-use Rattle.mg_table.proofs.EntryLaws.{length-payload_of, one-fits}
-use Rattle.mg_table.proofs.FinishLaws.{length-footer_bytes}
-use Rattle.mg_table.proofs.IndexLaws.{length-frames, least-index_bytes, total}
+use Rattle.mg_indexed.specs.declared.handle.BlockHandle.{BlockHandle}
+use Rattle.mg_table.proofs.EntryLaws.{above-none, length-payload_of, one-fits}
+use Rattle.mg_indexed.proofs.FieldLaws.{length-footer_bytes}
+use Rattle.mg_indexed.proofs.HandleLaws.{least-index_bytes}
+use Rattle.mg_table.proofs.IndexLaws.{length-frames, total}
 
 -- ---- entries that rise
 
@@ -81,6 +81,20 @@ most_bytes previous xs rise fits = elim fits.small [
   | inr one ↦ one_in_block previous xs rise one
 ]
 
+-- a block's body has at least 17 bytes
+pub least_bytes : (previous : List ℕ) (x : Entry) (xs : List Entry) → Follows previous (pair_of x) → 17 ≤ length (block_body (x ∷ xs))
+least_bytes previous x xs follows =
+    let first = pair_of x in
+    let rises = above-none previous x.key follows.rises follows.key in
+    omega (
+      arith,
+      length-append (item_of [] first) (items_after x.key (map pair_of xs)),
+      length-item_of-pair [] first,
+      length-payload_of x,
+      (Extends-from_Precedes [] x.key rises follows.key).more,
+      length-drop (shared_len [] x.key) x.key,
+    )
+
 pub most_in_frames : (previous : List ℕ) (blocks : List (List Entry)) → AreFilled block_body blocks → RiseAfter previous (map pair_of (items_of blocks))
     → total blocks ≤ 4116 * length blocks
 most_in_frames previous [] filled rise = omega arith
@@ -122,33 +136,30 @@ length-handles_from at [] = refl
 length-handles_from at (b ∷ blocks) = ap suc (length-handles_from (at + frame_length b) blocks)
 
 -- an index that has room in a frame is that of few blocks
-pub few_blocks : (blocks : List (List Entry)) → length (index_bytes (handles_from 0 blocks)) < 2 ^ 32 → 13 * length blocks < 2 ^ 32
-few_blocks blocks few = omega (arith, few, least-index_bytes (handles_from 0 blocks), length-handles_from 0 blocks)
+pub few_blocks : (blocks : List (List Entry)) → length (index_bytes table_keys (handles_from 0 blocks)) < 2 ^ 32 → 12 * length blocks < 2 ^ 32
+few_blocks blocks few = omega (arith, few, least-index_bytes table_keys (handles_from 0 blocks), length-handles_from 0 blocks)
 
 index_is : (key previous : List ℕ) (at : ℕ) (blocks : List (List Entry)) → IsUpTo key previous → AreFilled block_body blocks → RiseAfter previous (map pair_of (items_of blocks))
-    → at + 4116 * length blocks < 2 ^ 62 → IsIndexFrom key at (handles_from at blocks) (at + total blocks)
+    → at + 4116 * length blocks < 2 ^ 62 → IsIndexFrom table_keys table_form key at (handles_from at blocks) (at + total blocks)
 index_is key previous at [] up filled rise room = omega arith
 index_is key previous at ([] ∷ blocks) up filled rise room = absurd (filled.0.some refl)
 index_is key previous at ((x ∷ b) ∷ blocks) up filled rise room =
     let small = most_bytes previous (x ∷ b) (rise_front previous (x ∷ b) (items_of blocks) rise) filled.0 in
     let later = at + frame_length (x ∷ b) in
-    let rest : IsIndexFrom x.key later (handles_from later blocks) (later + total blocks) =
+    let rest : IsIndexFrom table_keys table_form x.key later (handles_from later blocks) (later + total blocks) =
     index_is x.key (last_key x.key b) later blocks (last_above x.key b (rise_front x.key b (items_of blocks) rise.1)) filled.2
     (rise_behind x.key b (items_of blocks) rise.1) (omega (arith, small, room)) in
-    let ends : later + total blocks ≡ at + total ((x ∷ b) ∷ blocks) = omega arith in (
-      above_both key previous x.key up rise.0.rises,
-      rise.0.key,
-      refl,
-      omega (arith, room),
-      omega (arith, small),
-      subst (λ end. IsIndexFrom x.key later (handles_from later blocks) end) ends rest,
+    let ends : later + total blocks ≡ at + total ((x ∷ b) ∷ blocks) = omega arith in
+    let fits : IsFrameLength table_form (frame_length (x ∷ b)) = (omega (arith, least_bytes previous x b rise.0), omega (arith, small), omega (arith, small)) in (
+      ((above_both key previous x.key up rise.0.rises, rise.0.key), refl, omega (arith, room), fits),
+      subst (λ end. IsIndexFrom table_keys table_form x.key later (handles_from later blocks) end) ends rest,
     )
 
 -- each item of an index is a handle
-pub places_fit : (key : List ℕ) (at : ℕ) (handles : List BlockHandle) (end : ℕ) → IsIndexFrom key at handles end → All IsHandle handles
+pub places_fit : (key : List ℕ) (at : ℕ) (handles : List (BlockHandle (List ℕ))) (end : ℕ) → IsIndexFrom table_keys table_form key at handles end → All IsHandle handles
 places_fit key at [] end is = All-nil IsHandle
 places_fit key at (handle ∷ handles) end is =
-    All-cons IsHandle handle handles (record { key = is.1; at = omega (arith, is.2, is.3) }) (places_fit handle.key (at + handle.len) handles end is.5)
+    All-cons IsHandle handle handles (record { key = is.0.0.1; at = omega (arith, is.0.1, is.0.2) }) (places_fit handle.first (at + handle.len) handles end is.1)
 
 -- ---- a table
 
@@ -159,10 +170,10 @@ pub frames_end : (lo hi : ℕ) (entries : List Entry) (blocks : List (List Entry
 frames_end lo hi entries blocks filter parts = most_in_frames [] blocks parts.listed.filled (rises lo hi entries blocks filter parts)
 
 pub index_of_table : (lo hi : ℕ) (entries : List Entry) (blocks : List (List Entry)) (filter : List ℕ) → IsTableOf lo hi entries blocks filter
-    → IsIndexFrom [] 0 (handles_from 0 blocks) (footer_of lo hi blocks filter).index_at
+    → IsIndexFrom table_keys table_form [] 0 (handles_from 0 blocks) (footer_of lo hi blocks filter).index_at
 index_of_table lo hi entries blocks filter parts =
     let ends : 0 + total blocks ≡ length (numbered_frames (map block_body blocks)) = omega (arith, length-frames blocks) in
-    subst (λ end. IsIndexFrom [] 0 (handles_from 0 blocks) end) ends
+    subst (λ end. IsIndexFrom table_keys table_form [] 0 (handles_from 0 blocks) end) ends
     (index_is [] [] 0 blocks (inl refl) parts.listed.filled (rises lo hi entries blocks filter parts) (omega (arith, few_blocks blocks parts.listed.few)))
 
 pub filter_is_body : (hashed : List (List ℕ)) (filter : List ℕ) → IsFilterOf hashed filter → IsBodyLength (length filter)
@@ -178,7 +189,7 @@ some_in_blocks (b ∷ blocks) some = (omega arith, some_items (b ++ items_of blo
     some_items [] none = absurd (none refl)
     some_items (x ∷ entries) more = omega arith
 
-pub footer_of_is_footer : (lo hi : ℕ) (entries : List Entry) (blocks : List (List Entry)) (filter : List ℕ) → IsTableOf lo hi entries blocks filter → IsFooter (footer_of lo hi blocks filter)
+pub footer_of_is_footer : (lo hi : ℕ) (entries : List Entry) (blocks : List (List Entry)) (filter : List ℕ) → IsTableOf lo hi entries blocks filter → IsFooter true (footer_of lo hi blocks filter)
 footer_of_is_footer lo hi entries blocks filter parts =
     let rise = rises lo hi entries blocks filter parts in
     let few = few_blocks blocks parts.listed.few in
@@ -186,48 +197,32 @@ footer_of_is_footer lo hi entries blocks filter parts =
     let ends = frames_end lo hi entries blocks filter parts in
     let some = some_in_blocks blocks (λ none. parts.listed.some (sym parts.listed.whole ∙ none)) in
     record {
-      entries = omega (arith, most, few);
-      sizes = omega (arith, most, few, sizes_in_count (items_of blocks) (subst (λ (es : List Entry). All IsEntry es) (sym parts.listed.whole) parts.listed.rising.each));
-      lo = parts.listed.from;
-      hi = parts.listed.to;
+      count = omega (arith, most, few);
+      sum = omega (arith, most, few, sizes_in_count (items_of blocks) (subst (λ (es : List Entry). All IsEntry es) (sym parts.listed.whole) parts.listed.rising.each));
+      low = parts.listed.from;
+      high = parts.listed.to;
       index_at = omega (arith, ends, few, length-frames blocks);
       filter_at = omega (arith, ends, few, length-frames blocks, parts.listed.few);
       blocks = omega (arith, few);
-      some_entries = some.1;
+      form = refl;
+      some_items = some.1;
       some_blocks = some.0;
     }
-
--- a footer says its number of blocks
-pub said_blocks-footer : (footer : Footer) → footer.blocks < 2 ^ 32 → said_blocks (footer_bytes footer) ≡ footer.blocks
-unfolding said_blocks footer_bytes
-said_blocks-footer footer fits =
-    let counts = counts_bytes footer ++ span_bytes footer in
-    let handles = big_endian 8 footer.index_at ++ big_endian 8 footer.filter_at in
-    let front = counts ++ handles in
-    let blocks = big_endian 4 footer.blocks in
-    let four = length-big_endian 4 footer.blocks in
-    let split : counts ++ (handles ++ blocks) ≡ front ++ blocks = sym (append_assoc counts handles blocks) in
-    let at : length (front ++ blocks) - 4 ≡ length front = omega (arith, length-append front blocks, four) in
-    let tail : drop (length (front ++ blocks) - 4) (front ++ blocks) ≡ blocks = ap (λ n. drop n (front ++ blocks)) at ∙ drop_at front blocks (length front) refl in
-    ap (λ (bytes : List ℕ). big_endian_value (take 4 (drop (length bytes - 4) bytes))) split
-    ∙ ap big_endian_value (ap (take 4) tail ∙ take_all 4 blocks (omega (arith, four)))
-    ∙ big_endian_value-big_endian 4 footer.blocks
-    ∙ mod-eq_of_lt fits
 
 -- ---- what stands before each frame
 
 before_filter : List (List Entry) → List (List ℕ)
-before_filter blocks = map block_body blocks ++ index_bytes (handles_from 0 blocks) ∷ []
+before_filter blocks = map block_body blocks ++ index_bytes table_keys (handles_from 0 blocks) ∷ []
 
 count_before_filter : (blocks : List (List Entry)) → length (before_filter blocks) ≡ length blocks + 1
 unfolding before_filter
-count_before_filter blocks = omega (arith, length-append (map block_body blocks) (index_bytes (handles_from 0 blocks) ∷ []), length-map blocks block_body)
+count_before_filter blocks = omega (arith, length-append (map block_body blocks) (index_bytes table_keys (handles_from 0 blocks) ∷ []), length-map blocks block_body)
 
-len_before_filter : (lo hi : ℕ) (blocks : List (List Entry)) (filter : List ℕ) → length (numbered_frames (before_filter blocks)) ≡ (footer_of lo hi blocks filter).filter_at
+len_before_filter : (lo hi : ℕ) (blocks : List (List Entry)) (filter : List ℕ) → length (numbered_frames (before_filter blocks)) ≡ offset_of (footer_of lo hi blocks filter).filter_at
 unfolding before_filter
 len_before_filter lo hi blocks filter =
     let before = map block_body blocks in
-    let index = index_bytes (handles_from 0 blocks) in
+    let index = index_bytes table_keys (handles_from 0 blocks) in
     omega (
       arith,
       ap length (numbered-more before index),
@@ -239,52 +234,28 @@ bodies_filter : (lo hi : ℕ) (blocks : List (List Entry)) (filter : List ℕ)
     → table_bodies lo hi blocks filter ≡ before_filter blocks ++ filter ∷ footer_bytes (footer_of lo hi blocks filter) ∷ []
 unfolding before_filter
 bodies_filter lo hi blocks filter =
-    sym (append_assoc (map block_body blocks) (index_bytes (handles_from 0 blocks) ∷ []) (filter ∷ footer_bytes (footer_of lo hi blocks filter) ∷ []))
+    sym (append_assoc (map block_body blocks) (index_bytes table_keys (handles_from 0 blocks) ∷ []) (filter ∷ footer_bytes (footer_of lo hi blocks filter) ∷ []))
 
 bodies_footer : (lo hi : ℕ) (blocks : List (List Entry)) (filter : List ℕ)
     → table_bodies lo hi blocks filter ≡ (before_filter blocks ++ filter ∷ []) ++ footer_bytes (footer_of lo hi blocks filter) ∷ []
 bodies_footer lo hi blocks filter =
     bodies_filter lo hi blocks filter ∙ sym (append_assoc (before_filter blocks) (filter ∷ []) (footer_bytes (footer_of lo hi blocks filter) ∷ []))
 
--- the index
-pub reads_index : (id : FileId) (lo hi : ℕ) (entries : List Entry) (blocks : List (List Entry)) (filter : List ℕ) → IsTableOf lo hi entries blocks filter
-    → frame_body id (numbered_frames (table_bodies lo hi blocks filter)) (footer_of lo hi blocks filter).index_at (length blocks) ≡ Ok (index_bytes (handles_from 0 blocks))
-reads_index id lo hi entries blocks filter parts =
-    let before = map block_body blocks in
-    let index = index_bytes (handles_from 0 blocks) in
-    let many : length before ≡ length blocks = length-map blocks block_body in
-    ap (λ (n : ℕ). frame_body id (numbered_frames (table_bodies lo hi blocks filter)) (length (numbered_frames before)) n) (sym many)
-    ∙ written_frame_is_read id before (filter ∷ footer_bytes (footer_of lo hi blocks filter) ∷ []) index (omega (arith, few_blocks blocks parts.listed.few, many)) parts.listed.few
-
 -- the filter
 pub reads_filter : (id : FileId) (lo hi : ℕ) (entries : List Entry) (blocks : List (List Entry)) (filter : List ℕ) → IsTableOf lo hi entries blocks filter
-    → frame_body id (numbered_frames (table_bodies lo hi blocks filter)) (footer_of lo hi blocks filter).filter_at (length blocks + 1) ≡ Ok filter
+    → frame_body id (numbered_frames (table_bodies lo hi blocks filter)) (offset_of (footer_of lo hi blocks filter).filter_at) (length blocks + 1) ≡ Ok filter
 reads_filter id lo hi entries blocks filter parts =
     let before = before_filter blocks in
     let footer = footer_bytes (footer_of lo hi blocks filter) in
     let many = count_before_filter blocks in
-    ap (λ (bs : List (List ℕ)). frame_body id (numbered_frames bs) (footer_of lo hi blocks filter).filter_at (length blocks + 1)) (bodies_filter lo hi blocks filter)
+    ap (λ (bs : List (List ℕ)). frame_body id (numbered_frames bs) (offset_of (footer_of lo hi blocks filter).filter_at) (length blocks + 1)) (bodies_filter lo hi blocks filter)
     ∙ ap (λ (at : ℕ). frame_body id (numbered_frames (before ++ filter ∷ footer ∷ [])) at (length blocks + 1)) (sym (len_before_filter lo hi blocks filter))
     ∙ ap (λ (n : ℕ). frame_body id (numbered_frames (before ++ filter ∷ footer ∷ [])) (length (numbered_frames before)) n) (sym many)
     ∙ written_frame_is_read id before (footer ∷ []) filter (omega (arith, few_blocks blocks parts.listed.few, many)) (omega (arith, (filter_is_body (hashed_keys entries) filter parts.filtered).at_most))
 
--- the footer
-pub reads_footer : (id : FileId) (lo hi : ℕ) (entries : List Entry) (blocks : List (List Entry)) (filter : List ℕ) → IsTableOf lo hi entries blocks filter
-    → footer_body id (numbered_frames (table_bodies lo hi blocks filter)) 73 2 ≡ Ok (footer_bytes (footer_of lo hi blocks filter))
-reads_footer id lo hi entries blocks filter parts =
-    let before = before_filter blocks ++ filter ∷ [] in
-    let footer = footer_bytes (footer_of lo hi blocks filter) in
-    let is_footer = footer_of_is_footer lo hi entries blocks filter parts in
-    let size : 73 ≡ length footer + 20 = omega (arith, length-footer_bytes (footer_of lo hi blocks filter)) in
-    let count : length before ≡ length blocks + 2 = omega (arith, length-append (before_filter blocks) (filter ∷ []), count_before_filter blocks) in
-    let many : length before ≡ said_blocks footer + 2 = omega (arith, count, said_blocks-footer (footer_of lo hi blocks filter) is_footer.blocks) in
-    ap (λ (bs : List (List ℕ)). footer_body id (numbered_frames bs) 73 2) (bodies_footer lo hi blocks filter)
-    ∙ ap (λ (n : ℕ). footer_body id (numbered_frames (before ++ footer ∷ [])) n 2) size
-    ∙ written_footer_is_read id before footer 2 (omega (arith, few_blocks blocks parts.listed.few, count)) (omega (arith, length-footer_bytes (footer_of lo hi blocks filter))) many
-
 -- the length of a table's file
 pub file_ends : (lo hi : ℕ) (blocks : List (List Entry)) (filter : List ℕ)
-    → length (numbered_frames (table_bodies lo hi blocks filter)) ≡ (footer_of lo hi blocks filter).filter_at + (length filter + 20) + 73
+    → length (numbered_frames (table_bodies lo hi blocks filter)) ≡ offset_of (footer_of lo hi blocks filter).filter_at + (length filter + 20) + 73
 file_ends lo hi blocks filter =
     let before = before_filter blocks in
     let footer = footer_bytes (footer_of lo hi blocks filter) in
@@ -293,9 +264,33 @@ file_ends lo hi blocks filter =
     ∙ omega (
       arith,
       length-frame (length (before ++ filter ∷ [])) footer,
-      length-footer_bytes (footer_of lo hi blocks filter),
+      length-footer_bytes true (footer_of lo hi blocks filter) refl,
       ap length (numbered-more before filter),
       length-append (numbered_frames before) (frame (length before) filter),
       length-frame (length before) filter,
       len_before_filter lo hi blocks filter,
     )
+
+-- the bytes of a table are a file with its footer and its index
+pub is_indexed : (bytes : List ℕ) (lo hi : ℕ) (entries : List Entry) (is : IsTable bytes lo hi entries)
+    → IsIndexed table_keys table_form bytes (footer_of lo hi is.blocks is.filter) (handles_from 0 is.blocks)
+is_indexed bytes lo hi entries is =
+    let blocks = is.blocks in
+    let filter = is.filter in
+    let footer = footer_of lo hi blocks filter in
+    let index = index_bytes table_keys (handles_from 0 blocks) in
+    let parts : table_bodies lo hi blocks filter ≡ (map block_body blocks ++ index ∷ filter ∷ []) ++ footer_bytes footer ∷ [] =
+    sym (append_assoc (map block_body blocks) (index ∷ filter ∷ []) (footer_bytes footer ∷ [])) in
+    record {
+      blocks = map block_body blocks;
+      filter = filter ∷ [];
+      bytes_are = is.bytes_are ∙ ap numbered_frames parts;
+      is_footer = footer_of_is_footer lo hi entries blocks filter is.parts;
+      is_index = index_of_table lo hi entries blocks filter is.parts;
+      few = is.parts.listed.few;
+      frames = length-map blocks block_body;
+      handles = length-handles_from 0 blocks;
+      filters = refl;
+      at = refl;
+      ends = refl;
+    }

@@ -14,8 +14,10 @@ use Rattle.mg_sealed.specs.Filling.{Grows}
 use Rattle.mg_sealed.proofs.FillingLaws.{one_filling}
 use Rattle.mg_sealed.proofs.WritingLaws.{frames_from-append}
 use Rattle.mg_table.specs.Entries.{block_body, pair_of}
-use Rattle.mg_table.specs.Footer.{footer_bytes}
-use Rattle.mg_table.specs.Index.{index_bytes, handles_from}
+use Rattle.mg_indexed.specs.Footer.{footer_bytes}
+use Rattle.mg_table.specs.Index.{handles_from}
+use Rattle.mg_indexed.specs.Index.{index_bytes}
+use Rattle.mg_indexed.specs.TableKeys.{table_keys}
 use Rattle.mg_table.specs.Lists.{OneFileOfTable}
 use Rattle.mg_table.specs.Table.{footer_of, hashed_keys, table_bodies}
 use Rattle.mg_types.specs.declared.items.Entry.{Entry}
@@ -45,7 +47,7 @@ bytes_in_filter : (lo hi : ℕ) (blocks : List (List Entry)) (filter : List ℕ)
 unfolding numbered_frames
 bytes_in_filter lo hi blocks filter small =
     let before = map block_body blocks in
-    let index = index_bytes (handles_from 0 blocks) in
+    let index = index_bytes table_keys (handles_from 0 blocks) in
     let footer = footer_bytes (footer_of lo hi blocks filter) in
     let ends = index ∷ filter ∷ footer ∷ [] in
     bytes_in_second (0 + length before) index filter (footer ∷ [])

@@ -12,7 +12,7 @@ use Rattle.mg_types.specs.declared.items.Entry.{Entry}
 use Rattle.mg_table.specs.declared.entry.Payload.{Payload}
 use Rattle.mg_table.specs.declared.entry.Refused.{Refused}
 use Rattle.mg_table.specs.declared.entry.Refused.TheVariants.{Number, Form}
-use Rattle.mg_table.proofs.PlaceLaws.{none_left}
+use Rattle.mg_indexed.proofs.FieldLaws.{none_left}
 
 flag-back : (gone : Bool) → eqb (flag gone) 1 ≡ gone
 flag-back true = refl

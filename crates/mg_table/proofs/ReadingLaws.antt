@@ -18,11 +18,13 @@ use Rattle.mg_sealed.proofs.AnswerLaws.{refused}
 use Rattle.mg_sealed.proofs.WrittenLaws.{written_frame_is_read}
 use Rattle.mg_table.specs.Entries.{block_body, pair_of, AreEntries}
 use Rattle.mg_types.specs.Items.{IsEntry}
-use Rattle.mg_table.specs.Footer.{footer_bytes}
-use Rattle.mg_table.specs.Index.{frame_length, index_bytes, handles_from}
+use Rattle.mg_indexed.specs.Footer.{footer_bytes}
+use Rattle.mg_table.specs.Index.{frame_length, handles_from}
+use Rattle.mg_indexed.specs.Index.{index_bytes}
+use Rattle.mg_indexed.specs.TableKeys.{table_keys}
 use Rattle.mg_table.specs.Table.{footer_of, table_bodies, Represents}
 use Rattle.mg_types.specs.declared.items.Entry.{Entry}
-use Rattle.mg_table.specs.declared.index.BlockHandle.{BlockHandle}
+use Rattle.mg_indexed.specs.declared.handle.BlockHandle.{BlockHandle}
 use Rattle.mg_table.specs.declared.table.Table.{Table}
 use Rattle.mg_table.proofs.LoadingLaws.{few_blocks, length-handles_from, most_bytes, rise_front}
 use Rattle.mg_table.proofs.IndexLaws.{length-frames, place_behind, total}
@@ -68,7 +70,7 @@ filled-at block_of (block ∷ blocks) (suc k) d filled within = filled-at block_
 
 -- ---- where blocks stand
 
-pub handle-at : (at : ℕ) (blocks : List (List Entry)) (k : ℕ) (p : BlockHandle) (d : List Entry) → k < length blocks
+pub handle-at : (at : ℕ) (blocks : List (List Entry)) (k : ℕ) (p : BlockHandle (List ℕ)) (d : List Entry) → k < length blocks
     → get_or (handles_from at blocks) k p ≡ place_behind (at + total (take k blocks)) (get_or blocks k d)
 handle-at at [] k p d within = absurd (omega arith)
 handle-at at (block ∷ blocks) zero p d within = ap (λ n. place_behind n block) (omega arith)
@@ -83,7 +85,7 @@ parts-at xs k d within =
     ∙ ap (λ front. front ++ drop (k + 1) xs) (take_more xs k d within)
     ∙ append_assoc (take k xs) (get_or xs k d ∷ []) (drop (k + 1) xs)
 
-block-frame : (id : FileId) (blocks : List (List Entry)) (others : List (List ℕ)) (k : ℕ) (d : List Entry) → k < length blocks → 13 * length blocks < 2 ^ 32
+block-frame : (id : FileId) (blocks : List (List Entry)) (others : List (List ℕ)) (k : ℕ) (d : List Entry) → k < length blocks → 12 * length blocks < 2 ^ 32
     → length (block_body (get_or blocks k d)) ≤ 4096
     → frame_body id (numbered_frames (map block_body blocks ++ others)) (total (take k blocks)) k ≡ Ok (block_body (get_or blocks k d))
 block-frame id blocks others k d within few small =
@@ -103,12 +105,12 @@ block-frame id blocks others k d within few small =
     ∙ read
 
 -- what is read of the block whose handle is this
-abbrev pub read_at : {S : Type 0} → Table S → List ℕ → BlockHandle → ℕ → Result (List ℕ) Fault
+abbrev pub read_at : {S : Type 0} → Table S → List ℕ → BlockHandle (List ℕ) → ℕ → Result (List ℕ) Fault
 read_at table bytes handle k = file.block_body table.file.id bytes handle.at handle.len k
 
 -- each block of a table is read at its handle
 pub block-read : {S : Type 0} (told : S → Option (List ℕ)) (table : Table S) (entries : List Entry) (stands : Represents told table entries) (bytes : List ℕ)
-    → told table.file.file ≡ Some bytes → (handle : BlockHandle) (k : ℕ) → k < length table.index → handle ≡ get_or table.index k handle
+    → told table.file.file ≡ Some bytes → (handle : BlockHandle (List ℕ)) (k : ℕ) → k < length table.index → handle ≡ get_or table.index k handle
     → (d : List Entry) → read_at table bytes handle k ≡ Ok (block_body (get_or stands.blocks k d))
 unfolding file.block_body
 block-read {S} told table entries stands bytes tells handle k within is d =
@@ -121,9 +123,9 @@ block-read {S} told table entries stands bytes tells handle k within is d =
     let there : handle ≡ place_behind (total (take k blocks)) block =
     is ∙ ap (λ ps. get_or ps k handle) stands.index ∙ handle-at 0 blocks k handle d inside ∙ ap (λ n. place_behind n block) (omega arith) in
     let file = stands.file in
-    let written : bytes ≡ numbered_frames (table_bodies table.footer.lo table.footer.hi blocks table.filter) =
-    subst (λ o. IfSome o (λ bs. bs ≡ numbered_frames (table_bodies table.footer.lo table.footer.hi blocks table.filter))) tells file in
-    let rest = index_bytes (handles_from 0 blocks) ∷ table.filter ∷ footer_bytes (footer_of table.footer.lo table.footer.hi blocks table.filter) ∷ [] in
+    let written : bytes ≡ numbered_frames (table_bodies table.footer.low table.footer.high blocks table.filter) =
+    subst (λ o. IfSome o (λ bs. bs ≡ numbered_frames (table_bodies table.footer.low table.footer.high blocks table.filter))) tells file in
+    let rest = index_bytes table_keys (handles_from 0 blocks) ∷ table.filter ∷ footer_bytes (footer_of table.footer.low table.footer.high blocks table.filter) ∷ [] in
     let frame : frame_body table.file.id bytes (total (take k blocks)) k ≡ Ok (block_body block) =
     ap (λ bs. frame_body table.file.id bs (total (take k blocks)) k) written ∙ block-frame table.file.id blocks rest k d inside (few_blocks blocks parts.listed.few) small in
     rw (there, frame, eq-eqb (length (block_body block) + 20) (length (block_body block) + 20) refl) refl
@@ -131,8 +133,8 @@ block-read {S} told table entries stands bytes tells handle k within is d =
 pub told-length : {S : Type 0} (told : S → Option (List ℕ)) (table : Table S) (entries : List Entry) (stands : Represents told table entries) (bytes : List ℕ)
     → told table.file.file ≡ Some bytes → table.file.len ≡ length bytes
 told-length {S} told table entries stands bytes tells =
-    let written : bytes ≡ numbered_frames (table_bodies table.footer.lo table.footer.hi stands.blocks table.filter) =
-    subst (λ o. IfSome o (λ bs. bs ≡ numbered_frames (table_bodies table.footer.lo table.footer.hi stands.blocks table.filter))) tells stands.file in
+    let written : bytes ≡ numbered_frames (table_bodies table.footer.low table.footer.high stands.blocks table.filter) =
+    subst (λ o. IfSome o (λ bs. bs ≡ numbered_frames (table_bodies table.footer.low table.footer.high stands.blocks table.filter))) tells stands.file in
     stands.len ∙ sym (ap length written)
 
 -- each block of a table is the block of entries of it
@@ -149,7 +151,7 @@ told-then (Some bytes) P Q step known = step bytes refl known
 
 -- a block of a table is refused only from outside
 pub block-refused : {S : Type 0} (told : S → Option (List ℕ)) (table : Table S) (entries : List Entry) (stands : Represents told table entries) (bytes : List ℕ)
-    → told table.file.file ≡ Some bytes → (handle : BlockHandle) (k : ℕ) → k < length table.index → handle ≡ get_or table.index k handle → (fault : Fault)
+    → told table.file.file ≡ Some bytes → (handle : BlockHandle (List ℕ)) (k : ℕ) → k < length table.index → handle ≡ get_or table.index k handle → (fault : Fault)
     → (table.file.len ≡ length bytes → Answers (read_at table bytes handle k) (Err fault)) → IsOutside fault
 block-refused told table entries stands bytes tells handle k within is fault known =
     refused (block_body (get_or stands.blocks k [])) (read_at table bytes handle k) fault (block-read told table entries stands bytes tells handle k within is [])
@@ -157,7 +159,7 @@ block-refused told table entries stands bytes tells handle k within is fault kno
 
 -- what is read of one is the block of its entries
 pub block-answered : {S : Type 0} (told : S → Option (List ℕ)) (table : Table S) (entries : List Entry) (stands : Represents told table entries) (bytes : List ℕ)
-    → told table.file.file ≡ Some bytes → (handle : BlockHandle) (k : ℕ) → k < length table.index → handle ≡ get_or table.index k handle → (frame : List ℕ)
+    → told table.file.file ≡ Some bytes → (handle : BlockHandle (List ℕ)) (k : ℕ) → k < length table.index → handle ≡ get_or table.index k handle → (frame : List ℕ)
     → (table.file.len ≡ length bytes → Answers (read_at table bytes handle k) (Ok frame)) → (d : List Entry)
     → IsBlock frame (map pair_of (get_or stands.blocks k d)) × All IsEntry (get_or stands.blocks k d)
 block-answered told table entries stands bytes tells handle k within is frame known d =

@@ -19,11 +19,11 @@ use Rattle.mg_frame.specs.Frame.{StandsAt}
 use Rattle.mg_table.specs.Loading.{IsRead}
 use Rattle.mg_table.proofs.WholeLaws.{is-whole}
 use Rattle.mg_table.specs.Table.{IsTableBut, Represents}
-use Rattle.mg_table.specs.declared.index.BlockHandle.{BlockHandle}
+use Rattle.mg_indexed.specs.declared.handle.BlockHandle.{BlockHandle}
 use Rattle.mg_table.specs.declared.table.Table.{Table}
 use Rattle.mg_table.proofs.CauseLaws.{read-length, read-push, IsReadAt}
 use Rattle.mg_table.proofs.LoadingLaws.{length-handles_from}
-use Rattle.mg_table.proofs.RefusalLaws.{under_both, under_then, Under}
+use Rattle.mg_indexed.proofs.LoadingSteps.{Under, under_both, under_then}
 use Rattle.mg_table.proofs.ScanningLaws.{len_before, next-filled, next-joined}
 
 -- the blocks before this number were read, they are filled in order, and these are their entries
@@ -83,10 +83,10 @@ first-of told table number entries len within l =
 -- a block that is refused behind others that were read
 pub scan_refused : {S : Type 0} (told : Option (List ℕ)) (table : Table S) (k : ℕ) (entries : List Entry) (len : ℕ) (fault : Fault) → k < length table.index
     → Lined told table k entries len
-    → Under told table.file.len (λ bytes. IsOutside fault ⊎ IsBlockRefused table bytes k (λ (p : BlockHandle) body. IsListUnfit table.file.id p.at body) fault)
+    → Under told table.file.len (λ bytes. IsOutside fault ⊎ IsBlockRefused table bytes k (λ (p : BlockHandle (List ℕ)) body. IsListUnfit table.file.id p.at body) fault)
     → Under told table.file.len (λ bytes. IsOutside fault ⊎ IsScanRefused table bytes fault)
 scan_refused told table k entries len fault within l known =
-    let Refused : List ℕ → Type 0 = λ bytes. IsOutside fault ⊎ IsBlockRefused table bytes k (λ (p : BlockHandle) body. IsListUnfit table.file.id p.at body) fault in
+    let Refused : List ℕ → Type 0 = λ bytes. IsOutside fault ⊎ IsBlockRefused table bytes k (λ (p : BlockHandle (List ℕ)) body. IsListUnfit table.file.id p.at body) fault in
     let First : List ℕ → Type 0 = λ bytes. AreFirst table bytes l.blocks × (length l.blocks ≡ k) in
     under_then told table.file.len (λ bytes. First bytes × Refused bytes) (λ bytes. IsOutside fault ⊎ IsScanRefused table bytes fault)
     (λ bytes same h. elim h.1 [
@@ -95,22 +95,22 @@ scan_refused told table k entries len fault within l known =
           inr (inl (
             l.blocks,
             h.0.0,
-            subst (λ (n : ℕ). IsBlockRefused table bytes n (λ (p : BlockHandle) body. IsListUnfit table.file.id p.at body) fault) (sym h.0.1) is,
+            subst (λ (n : ℕ). IsBlockRefused table bytes n (λ (p : BlockHandle (List ℕ)) body. IsListUnfit table.file.id p.at body) fault) (sym h.0.1) is,
           ))
     ])
     (under_both told table.file.len First Refused (first-of told table k entries len (omega arith) l) known)
 
 -- the frame of this number is read at its handle, and stands there
-abbrev pub IsFrameRead : {S : Type 0} → Table S → ℕ → BlockHandle → List ℕ → List ℕ → Type 0
+abbrev pub IsFrameRead : {S : Type 0} → Table S → ℕ → BlockHandle (List ℕ) → List ℕ → List ℕ → Type 0
 IsFrameRead table k handle frame bytes = (read_at table.file.id bytes handle k ≡ Ok frame) × StandsAt bytes handle.at (k, frame)
 
-pub frame-read : {S : Type 0} (told : Option (List ℕ)) (table : Table S) (k : ℕ) (handle : BlockHandle) (frame : List ℕ)
+pub frame-read : {S : Type 0} (told : Option (List ℕ)) (table : Table S) (k : ℕ) (handle : BlockHandle (List ℕ)) (frame : List ℕ)
     → Under told table.file.len (λ bytes. read_at table.file.id bytes handle k ≡ Ok frame) → Under told table.file.len (λ bytes. StandsAt bytes handle.at (k, frame))
     → Under told table.file.len (IsFrameRead table k handle frame)
 frame-read told table k handle frame read there =
     under_both told table.file.len (λ bytes. read_at table.file.id bytes handle k ≡ Ok frame) (λ bytes. StandsAt bytes handle.at (k, frame)) read there
 
-block-read-too : {S : Type 0} (told : Option (List ℕ)) (table : Table S) (k : ℕ) (handle : BlockHandle) (frame : List ℕ) (blocks : List (List Entry)) (listed : List Entry)
+block-read-too : {S : Type 0} (told : Option (List ℕ)) (table : Table S) (k : ℕ) (handle : BlockHandle (List ℕ)) (frame : List ℕ) (blocks : List (List Entry)) (listed : List Entry)
     → k < length table.index → handle ≡ get_or table.index k handle → IsBlock frame (map pair_of listed) → All IsEntry listed
     → Under told table.file.len (IsFrameRead table k handle frame)
     → Under told table.file.len (λ bytes. AreRead table.file.id bytes 0 (take k table.index) blocks)
@@ -121,7 +121,7 @@ block-read-too told table k handle frame blocks listed within there block each r
     (λ bytes. AreRead id bytes 0 (take (k + 1) table.index) (blocks ++ listed ∷ []))
     (λ bytes same h.
     let handles : take (k + 1) table.index ≡ take k table.index ++ handle ∷ [] =
-    take_more table.index k handle within ∙ ap (λ (p : BlockHandle). take k table.index ++ p ∷ []) (sym there) in
+    take_more table.index k handle within ∙ ap (λ (p : BlockHandle (List ℕ)). take k table.index ++ p ∷ []) (sym there) in
     let count : 0 + length (take k table.index) ≡ k = omega (arith, length-take-le k table.index (omega arith)) in
     let body : read_at id bytes handle k ≡ Ok (block_body listed) = h.0.0 ∙ ap (λ (b : List ℕ). let r : Result (List ℕ) Fault = Ok b in r) block.spelling in
     let frame_is = subst (λ (b : List ℕ). StandsAt bytes handle.at (k, b)) block.spelling h.0.1 in
@@ -130,7 +130,7 @@ block-read-too told table k handle frame blocks listed within there block each r
     subst (λ ps. AreRead id bytes 0 ps (blocks ++ listed ∷ [])) (sym handles) are)
     (under_both told table.file.len (IsFrameRead table k handle frame) (λ bytes. AreRead id bytes 0 (take k table.index) blocks) read so_far)
 
-headed-push : (handles : List BlockHandle) (blocks : List (List Entry)) (handle : BlockHandle) (block : List Entry) → length blocks ≡ length handles → handle.key ≡ first_key block
+headed-push : (handles : List (BlockHandle (List ℕ))) (blocks : List (List Entry)) (handle : BlockHandle (List ℕ)) (block : List Entry) → length blocks ≡ length handles → handle.first ≡ first_key block
     → AreHeaded handles blocks → AreHeaded (handles ++ handle ∷ []) (blocks ++ block ∷ [])
 headed-push [] [] handle block count key headed = (key, tt)
 headed-push [] (b ∷ blocks) handle block count key headed = absurd (omega (arith, count))
@@ -138,9 +138,9 @@ headed-push (h ∷ handles) [] handle block count key headed = absurd headed
 headed-push (h ∷ handles) (b ∷ blocks) handle block count key headed = (headed.0, headed-push handles blocks handle block (omega (arith, count)) key headed.1)
 
 -- one block more
-pub lined-more : {S : Type 0} (told : Option (List ℕ)) (table : Table S) (k : ℕ) (handle : BlockHandle) (frame : List ℕ) (entries more listed : List Entry) (len size : ℕ)
+pub lined-more : {S : Type 0} (told : Option (List ℕ)) (table : Table S) (k : ℕ) (handle : BlockHandle (List ℕ)) (frame : List ℕ) (entries more listed : List Entry) (len size : ℕ)
     → k < length table.index → handle ≡ get_or table.index k handle → more ≡ entries ++ listed → IsBlock frame (map pair_of listed) → All IsEntry listed
-    → IsNext handle.key entries len listed size → size ≡ length frame → Under told table.file.len (IsFrameRead table k handle frame)
+    → IsNext handle.first entries len listed size → size ≡ length frame → Under told table.file.len (IsFrameRead table k handle frame)
     → Lined told table k entries len → Lined told table (k + 1) more size
 lined-more told table k handle frame entries more listed len size within there is block each next same read l =
     let long : size ≡ length (block_body listed) = same ∙ ap length block.spelling in
@@ -148,13 +148,13 @@ lined-more told table k handle frame entries more listed len size within there i
       blocks = l.blocks ++ listed ∷ [];
       are = is ∙ ap (λ es. es ++ listed) l.are ∙ sym (items_of-push l.blocks listed);
       rising = subst AreEntries (sym is) (next-joined entries listed next.1 l.rising (record { rising = block.rising; each = each }));
-      filled = next-filled l.blocks handle.key entries listed len size next l.are l.ends l.filled long;
+      filled = next-filled l.blocks handle.first entries listed len size next l.are l.ends l.filled long;
       ends = inr (l.blocks, listed, refl, long);
       headed = under_then told table.file.len (λ bytes. AreRead table.file.id bytes 0 (take k table.index) l.blocks × AreHeaded (take k table.index) l.blocks)
           (λ bytes. AreHeaded (take (k + 1) table.index) (l.blocks ++ listed ∷ []))
           (λ bytes here h.
           let handles : take (k + 1) table.index ≡ take k table.index ++ handle ∷ [] =
-          take_more table.index k handle within ∙ ap (λ (p : BlockHandle). take k table.index ++ p ∷ []) (sym there) in
+          take_more table.index k handle within ∙ ap (λ (p : BlockHandle (List ℕ)). take k table.index ++ p ∷ []) (sym there) in
           subst (λ ps. AreHeaded ps (l.blocks ++ listed ∷ [])) (sym handles)
           (headed-push (take k table.index) l.blocks handle listed (read-length table.file.id bytes 0 (take k table.index) l.blocks h.0) (sym next.0) h.1))
           (under_both told table.file.len (λ bytes. AreRead table.file.id bytes 0 (take k table.index) l.blocks) (λ bytes. AreHeaded (take k table.index) l.blocks) l.read l.headed);
@@ -167,19 +167,19 @@ parts-of entries more listed n is count =
     (ap (take n) is ∙ take_at entries listed n (sym count), ap (drop n) is ∙ drop_at entries listed n (sym count))
 
 -- the next block may not stand there
-pub order_refused : {S : Type 0} (told : Option (List ℕ)) (table : Table S) (k : ℕ) (handle : BlockHandle) (frame : List ℕ) (entries listed : List Entry) (len size : ℕ) (fault : Fault)
+pub order_refused : {S : Type 0} (told : Option (List ℕ)) (table : Table S) (k : ℕ) (handle : BlockHandle (List ℕ)) (frame : List ℕ) (entries listed : List Entry) (len size : ℕ) (fault : Fault)
     → k < length table.index → handle ≡ get_or table.index k handle → IsBlock frame (map pair_of listed) → All IsEntry listed
-    → (IsNext handle.key entries len listed size → ⊥) → size ≡ length frame → fault ≡ Malformed table.file.id handle.at
+    → (IsNext handle.first entries len listed size → ⊥) → size ≡ length frame → fault ≡ Malformed table.file.id handle.at
     → Under told table.file.len (IsFrameRead table k handle frame) → Lined told table k entries len
     → Under told table.file.len (λ bytes. IsOutside fault ⊎ IsScanRefused table bytes fault)
 order_refused told table k handle frame entries listed len size fault within there block each apart same is read l =
     let long : size ≡ length (block_body listed) = same ∙ ap length block.spelling in
-    let apart' = subst (λ (n : ℕ). IsNext handle.key entries len listed n → ⊥) long apart in
-    let apart'' = subst (λ (es : List Entry). IsNext handle.key es len listed (length (block_body listed)) → ⊥) l.are apart' in
+    let apart' = subst (λ (n : ℕ). IsNext handle.first entries len listed n → ⊥) long apart in
+    let apart'' = subst (λ (es : List Entry). IsNext handle.first es len listed (length (block_body listed)) → ⊥) l.are apart' in
     let both = block-read-too told table k handle frame l.blocks listed within there block each read l.read in
     let First : List ℕ → Type 0 = λ bytes. AreFirst table bytes l.blocks × (length l.blocks ≡ k) in
-    let Unfit : BlockHandle → Type 0 =
-    λ p. (IsNext p.key (items_of l.blocks) len listed (length (block_body listed)) → ⊥) × (fault ≡ Malformed table.file.id p.at) in
+    let Unfit : BlockHandle (List ℕ) → Type 0 =
+    λ p. (IsNext p.first (items_of l.blocks) len listed (length (block_body listed)) → ⊥) × (fault ≡ Malformed table.file.id p.at) in
     under_then told table.file.len
     (λ bytes. First bytes × AreRead table.file.id bytes 0 (take (k + 1) table.index) (l.blocks ++ listed ∷ []))
     (λ bytes. IsOutside fault ⊎ IsScanRefused table bytes fault)
@@ -246,10 +246,10 @@ scanned-all told table all stands number entries past listed =
 -- where all blocks are read, the bytes of a file that was loaded are a table
 pub scanned-whole : {S : Type 0} (told : Option (List ℕ)) (table : Table S) (k : ℕ) (entries : List Entry) (len : ℕ) → length table.index ≤ k → AreCounted table.footer entries
     → Lined told table k entries len
-    → Under told table.file.len (λ bytes. IsRead table.file.id bytes table → IsTableBut bytes table.footer.lo table.footer.hi entries table.filter)
+    → Under told table.file.len (λ bytes. IsRead table.file.id bytes table → IsTableBut bytes table.footer.low table.footer.high entries table.filter)
 scanned-whole told table k entries len past counted l =
     under_then told table.file.len (λ bytes. AreRead table.file.id bytes 0 (take k table.index) l.blocks × AreHeaded (take k table.index) l.blocks)
-    (λ bytes. IsRead table.file.id bytes table → IsTableBut bytes table.footer.lo table.footer.hi entries table.filter)
+    (λ bytes. IsRead table.file.id bytes table → IsTableBut bytes table.footer.low table.footer.high entries table.filter)
     (λ bytes here h is.
     let all = take_all k table.index past in
     is-whole table.file.id bytes table entries l.blocks is (subst (λ ps. AreRead table.file.id bytes 0 ps l.blocks) all h.0)

@@ -13,8 +13,8 @@ use Rattle.mg_sealed.proofs.FilledLaws.{closed_still, items_of-push, last_is_som
 use Rattle.mg_table.specs.Entries.{block_body, first_key, pair_of, AreEntries}
 use Rattle.mg_table.specs.Scanning.{item_length, last_key, AreCounted, EndsIn, IsNext}
 use Rattle.mg_table.specs.Table.{sizes_of, Represents}
-use Rattle.mg_table.specs.declared.footer.Footer.{Footer}
-use Rattle.mg_table.specs.declared.index.BlockHandle.{BlockHandle}
+use Rattle.mg_indexed.specs.declared.footer.Footer.{Footer}
+use Rattle.mg_indexed.specs.declared.handle.BlockHandle.{BlockHandle}
 use Rattle.mg_table.specs.declared.table.Table.{Table}
 use Rattle.mg_table.proofs.EntryLaws.{last_of-behind, length-payload_of}
 use Rattle.mg_table.proofs.IndexLaws.{place_behind, total}
@@ -144,9 +144,9 @@ full-before blocks (suc j) filled within =
     omega (arith, closed-at blocks j filled within, ap (λ (k : List ℕ). item_length k (first_key (get_or blocks (suc j) []))) keys)
 
 -- each block of a table is the next one behind those before it
-pub next-in-table : {S : Type 0} (told : S → Option (List ℕ)) (table : Table S) (all : List Entry) (stands : Represents told table all) (k : ℕ) (handle : BlockHandle)
+pub next-in-table : {S : Type 0} (told : S → Option (List ℕ)) (table : Table S) (all : List Entry) (stands : Represents told table all) (k : ℕ) (handle : BlockHandle (List ℕ))
     (before block : List Entry) (len size : ℕ) → k < length table.index → handle ≡ get_or table.index k handle → before ≡ items_of (take k stands.blocks)
-    → block ≡ get_or stands.blocks k [] → len ≡ len_before stands.blocks k → size ≡ length (block_body block) → IsNext handle.key before len block size
+    → block ≡ get_or stands.blocks k [] → len ≡ len_before stands.blocks k → size ≡ length (block_body block) → IsNext handle.first before len block size
 next-in-table told table all stands k handle before block len size within is front here long same =
     let blocks = stands.blocks in
     let inside : k < length blocks = omega (arith, ap length stands.index, length-handles_from 0 blocks) in
@@ -157,7 +157,7 @@ next-in-table told table all stands k handle before block len size within is fro
     let small = most_bytes [] one (block-entries blocks k [] are inside).rising fits in
     let above = rises-into (items_of (take k blocks)) one (items_of (drop (suc k) blocks)) fits.some (subst AreEntries (items-parts blocks k [] inside) are) in
     rw (front, here, long) (
-      sym (ap (λ (p : BlockHandle). p.key) there),
+      sym (ap (λ (p : BlockHandle (List ℕ)). p.first) there),
       above,
       omega (arith, small, same, ap (λ (b : List Entry). length (block_body b)) here),
       full-before blocks k stands.parts.listed.filled inside,
@@ -166,13 +166,13 @@ next-in-table told table all stands k handle before block len size within is fro
 -- the entries of a table are as its footer says
 pub counted-in-table : {S : Type 0} (told : S → Option (List ℕ)) (table : Table S) (all : List Entry) → Represents told table all → AreCounted table.footer all
 counted-in-table told table all stands = (
-  ap length (sym stands.parts.listed.whole) ∙ sym (ap (λ (f : Footer). f.entries) stands.footer),
-  ap sizes_of (sym stands.parts.listed.whole) ∙ sym (ap (λ (f : Footer). f.sizes) stands.footer),
+  ap length (sym stands.parts.listed.whole) ∙ sym (ap (λ (f : Footer). f.count) stands.footer),
+  ap sizes_of (sym stands.parts.listed.whole) ∙ sym (ap (λ (f : Footer). f.sum) stands.footer),
 )
 
 -- each block of a table has an entry, and the index says the first one's key
-pub first-in-table : {S : Type 0} (told : S → Option (List ℕ)) (table : Table S) (all : List Entry) (stands : Represents told table all) (k : ℕ) (handle : BlockHandle)
-    → k < length table.index → handle ≡ get_or table.index k handle → (get_or stands.blocks k [] ≢ []) × (first_key (get_or stands.blocks k []) ≡ handle.key)
+pub first-in-table : {S : Type 0} (told : S → Option (List ℕ)) (table : Table S) (all : List Entry) (stands : Represents told table all) (k : ℕ) (handle : BlockHandle (List ℕ))
+    → k < length table.index → handle ≡ get_or table.index k handle → (get_or stands.blocks k [] ≢ []) × (first_key (get_or stands.blocks k []) ≡ handle.first)
 first-in-table told table all stands k handle within is =
     let inside : k < length stands.blocks = omega (arith, ap length stands.index, length-handles_from 0 stands.blocks) in (
       (filled-at block_body stands.blocks k [] stands.parts.listed.filled inside).some,

@@ -1,6 +1,5 @@
 pub mod Entries
 pub mod Filters
-pub mod Footer
 pub mod Index
 pub mod Lists
 pub mod Loading

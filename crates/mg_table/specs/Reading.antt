@@ -19,7 +19,7 @@ use Rattle.mg_sealed.specs.Filling.{items_of, AreFilled}
 use Rattle.mg_types.specs.declared.items.Entry.{Entry}
 use Rattle.mg_table.specs.declared.entry.Refused.{Refused}
 use Rattle.mg_table.specs.declared.entry.Refused.TheVariants.{Number, Form}
-use Rattle.mg_table.specs.declared.index.BlockHandle.{BlockHandle}
+use Rattle.mg_indexed.specs.declared.handle.BlockHandle.{BlockHandle}
 use Rattle.mg_table.specs.declared.table.Table.{Table}
 
 -- the entry of a key among entries
@@ -31,7 +31,7 @@ abbrev pub HasUnfit : {S : Type 0} → Table S → Fault → Type 0
 HasUnfit table fault = Any (λ handle. IsUnfitAt table.file.id handle.at fault) table.index
 
 -- the body of the block of this number whose handle is in the index, or what is damaged or malformed there
-abbrev pub read_at : FileId → List ℕ → BlockHandle → ℕ → Result (List ℕ) Fault
+abbrev pub read_at : FileId → List ℕ → BlockHandle (List ℕ) → ℕ → Result (List ℕ) Fault
 read_at id bytes handle number = sealed.block_body id bytes handle.at handle.len number
 
 -- the fault of a payload in the block at this offset, of which this is wrong
@@ -62,18 +62,18 @@ abbrev pub BeginsWithKey : List ℕ → List ℕ → Type 0
 BeginsWithKey body key = (pair : Pair) × (rest : List ℕ) × Begins body (pair ∷ []) rest × (pair.key ≡ key)
 
 -- what is wrong with a block in which a key is sought: it begins with no entry of the key that the index says, or this of a search
-abbrev pub IsFindUnfit : FileId → BlockHandle → List ℕ → List ℕ → Fault → Type 0
+abbrev pub IsFindUnfit : FileId → BlockHandle (List ℕ) → List ℕ → List ℕ → Fault → Type 0
 IsFindUnfit id handle body key fault =
-    ((BeginsWithKey body handle.key → ⊥) × (fault ≡ Malformed id handle.at))
-    ⊎ (BeginsWithKey body handle.key × IsSearchUnfit id handle.at body key fault)
+    ((BeginsWithKey body handle.first → ⊥) × (fault ≡ Malformed id handle.at))
+    ⊎ (BeginsWithKey body handle.first × IsSearchUnfit id handle.at body key fault)
 
 -- why the block of this number at this offset is refused: its frame, or this of its body
-abbrev pub IsRefusedAt : FileId → List ℕ → ℕ → (BlockHandle → List ℕ → Fault → Type 0) → Fault → BlockHandle → Type 0
+abbrev pub IsRefusedAt : FileId → List ℕ → ℕ → (BlockHandle (List ℕ) → List ℕ → Fault → Type 0) → Fault → BlockHandle (List ℕ) → Type 0
 IsRefusedAt id bytes number IsBodyUnfit fault handle =
     (read_at id bytes handle number ≡ Err fault) ⊎ ((body : List ℕ) × (read_at id bytes handle number ≡ Ok body) × IsBodyUnfit handle body fault)
 
 -- why the block of this number is refused, where the index says that it stands
-abbrev pub IsBlockRefused : {S : Type 0} → Table S → List ℕ → ℕ → (BlockHandle → List ℕ → Fault → Type 0) → Fault → Type 0
+abbrev pub IsBlockRefused : {S : Type 0} → Table S → List ℕ → ℕ → (BlockHandle (List ℕ) → List ℕ → Fault → Type 0) → Fault → Type 0
 IsBlockRefused table bytes number IsBodyUnfit fault =
     (number < length table.index) × HoldsAt (IsRefusedAt table.file.id bytes number IsBodyUnfit fault) table.index number
 
@@ -82,17 +82,17 @@ IsBlockRefused table bytes number IsBodyUnfit fault =
 pub record IsSoughtIn {S : Type 0} (table : Table S) (key : List ℕ) (number : ℕ) : Type 0 where
   pub held : has_words table.filter (key_words key) ≡ true
   pub within : number < length table.index
-  pub last : HoldsAt (λ handle. Precedes key handle.key → ⊥) table.index number
-  pub following : number + 1 < length table.index → HoldsAt (λ handle. Precedes key handle.key) table.index (number + 1)
+  pub last : HoldsAt (λ handle. Precedes key handle.first → ⊥) table.index number
+  pub following : number + 1 < length table.index → HoldsAt (λ handle. Precedes key handle.first) table.index (number + 1)
 
 -- a key is sought in no block: the filter denies it, or the first block begins above it
 abbrev pub IsSoughtNowhere : {S : Type 0} → Table S → List ℕ → Type 0
 IsSoughtNowhere table key =
-    (has_words table.filter (key_words key) ≡ false) ⊎ (0 < length table.index → HoldsAt (λ handle. Precedes key handle.key) table.index 0)
+    (has_words table.filter (key_words key) ≡ false) ⊎ (0 < length table.index → HoldsAt (λ handle. Precedes key handle.first) table.index 0)
 
 -- the block of this number is read, it begins with the key that the index says, and this is so of its body
 abbrev pub HasBody : {S : Type 0} → Table S → List ℕ → ℕ → (List ℕ → Type 0) → Type 0
-HasBody table bytes number P = HoldsAt (λ handle. (body : List ℕ) × (read_at table.file.id bytes handle number ≡ Ok body) × BeginsWithKey body handle.key × P body)
+HasBody table bytes number P = HoldsAt (λ handle. (body : List ℕ) × (read_at table.file.id bytes handle number ≡ Ok body) × BeginsWithKey body handle.first × P body)
     table.index number
 
 -- what is read where this is found of a key: an entry, behind smaller keys of its block; or none, in no block or in the key's block
@@ -107,7 +107,7 @@ IsFindRefused table bytes key fault =
     (number : ℕ) × IsSoughtIn table key number × IsBlockRefused table bytes number (λ handle body. IsFindUnfit table.file.id handle body key) fault
 
 -- the blocks at these handles, of which the first has this number, are read, stand there as frames, and are those of these entries
-abbrev pub AreRead : FileId → List ℕ → ℕ → List BlockHandle → List (List Entry) → Type 0
+abbrev pub AreRead : FileId → List ℕ → ℕ → List (BlockHandle (List ℕ)) → List (List Entry) → Type 0
 AreRead id bytes number [] [] = Unit {0}
 AreRead id bytes number [] (_ ∷ _) = ⊥
 AreRead id bytes number (_ ∷ _) [] = ⊥
@@ -128,7 +128,7 @@ abbrev pub IsOrderRefused : {S : Type 0} → Table S → List ℕ → List (List
 IsOrderRefused table bytes before fault =
     (block : List Entry) × (len : ℕ) × AreRead table.file.id bytes 0 (take (length before + 1) table.index) (before ++ block ∷ []) × EndsIn before len
     × (length before < length table.index)
-    × HoldsAt (λ handle. (IsNext handle.key (items_of before) len block (length (block_body block)) → ⊥) × (fault ≡ Malformed table.file.id handle.at)) table.index
+    × HoldsAt (λ handle. (IsNext handle.first (items_of before) len block (length (block_body block)) → ⊥) × (fault ≡ Malformed table.file.id handle.at)) table.index
     (length before)
 
 -- why a table whose file has these bytes is not listed: behind blocks that are right, one is refused, or may not stand there; or all are

@@ -4,8 +4,8 @@ use Rattle.mg_block.specs.Block.{shared_len, Precedes}
 use Rattle.mg_block.specs.View.{last_pair}
 use Rattle.mg_table.specs.Entries.{block_body, first_key, pair_of}
 use Rattle.mg_table.specs.Table.{sizes_of}
-use Rattle.mg_table.specs.declared.footer.Footer.{Footer}
-use Rattle.mg_table.specs.declared.index.BlockHandle.{BlockHandle}
+use Rattle.mg_indexed.specs.declared.footer.Footer.{Footer}
+use Rattle.mg_indexed.specs.declared.handle.BlockHandle.{BlockHandle}
 use Rattle.mg_types.specs.declared.items.Entry.{Entry}
 
 -- the key of the last entry, empty where there is none
@@ -24,10 +24,10 @@ IsNext key before len block size =
     (first_key block ≡ key) × Precedes (last_key before) (first_key block) × (size ≤ 4096) × (4096 < len + item_length (last_key before) (first_key block))
 
 -- each block begins with the key that the index says
-abbrev pub AreHeaded : List BlockHandle → List (List Entry) → Type 0
+abbrev pub AreHeaded : List (BlockHandle (List ℕ)) → List (List Entry) → Type 0
 AreHeaded [] blocks = Unit {0}
 AreHeaded (_ ∷ _) [] = ⊥
-AreHeaded (handle ∷ handles) (block ∷ blocks) = (handle.key ≡ first_key block) × AreHeaded handles blocks
+AreHeaded (handle ∷ handles) (block ∷ blocks) = (handle.first ≡ first_key block) × AreHeaded handles blocks
 
 -- no block is read yet, as if one of 4,096 bytes stood before the first; or the last one has this many bytes
 abbrev pub EndsIn : List (List Entry) → ℕ → Type 0
@@ -36,4 +36,4 @@ EndsIn blocks len =
 
 -- the footer says how many entries there are, and the sum of their sizes
 abbrev pub AreCounted : Footer → List Entry → Type 0
-AreCounted footer entries = (length entries ≡ footer.entries) × (sizes_of entries ≡ footer.sizes)
+AreCounted footer entries = (length entries ≡ footer.count) × (sizes_of entries ≡ footer.sum)

@@ -1,15 +1,17 @@
 -- A table: the bytes of its list of entries.
-use Rattle.std.specs.Prelude.{◌≡◌, ◌≢◌, ℕ, ◌+◌, ◌<◌, ◌^◌, List, [], ◌∷◌, ◌++◌, length, map, Option, IfSome}
+use Rattle.std.specs.Prelude.{◌≡◌, ◌≢◌, ℕ, ◌+◌, ◌<◌, ◌^◌, List, [], ◌∷◌, ◌++◌, length, map, Option, Some, IfSome}
 use Rattle.std.specs.List.{sum_by}
 use Rattle.mg_bloom.specs.Bloom.{key_words}
 use Rattle.mg_frame.specs.Frames.{numbered_frames}
 use Rattle.mg_sealed.specs.Filling.{AreFilled, items_of}
 use Rattle.mg_table.specs.Entries.{block_body, AreEntries}
 use Rattle.mg_table.specs.Filters.{IsFilterOf}
-use Rattle.mg_table.specs.Footer.{footer_bytes}
-use Rattle.mg_table.specs.Index.{index_bytes, handles_from}
+use Rattle.mg_indexed.specs.Footer.{footer_bytes}
+use Rattle.mg_table.specs.Index.{handles_from}
+use Rattle.mg_indexed.specs.Index.{index_bytes}
+use Rattle.mg_indexed.specs.TableKeys.{table_keys}
 use Rattle.mg_types.specs.declared.items.Entry.{Entry}
-use Rattle.mg_table.specs.declared.footer.Footer.{Footer}
+use Rattle.mg_indexed.specs.declared.footer.Footer.{Footer}
 use Rattle.mg_table.specs.declared.table.Table.{Table}
 
 -- what the keys of entries are hashed to
@@ -25,19 +27,19 @@ abbrev pub footer_of : ℕ → ℕ → List (List Entry) → List ℕ → Footer
 footer_of lo hi blocks filter =
     let index_at = length (numbered_frames (map block_body blocks)) in
     record {
-      entries = length (items_of blocks);
-      sizes = sizes_of (items_of blocks);
-      lo = lo;
-      hi = hi;
+      count = length (items_of blocks);
+      sum = sizes_of (items_of blocks);
+      low = lo;
+      high = hi;
       index_at = index_at;
-      filter_at = index_at + length (index_bytes (handles_from 0 blocks)) + 20;
+      filter_at = Some (index_at + length (index_bytes table_keys (handles_from 0 blocks)) + 20);
       blocks = length blocks;
     }
 
 -- the bodies of a table's frames: the blocks, the index, the filter and the footer
 abbrev pub table_bodies : ℕ → ℕ → List (List Entry) → List ℕ → List (List ℕ)
 table_bodies lo hi blocks filter =
-    map block_body blocks ++ index_bytes (handles_from 0 blocks) ∷ filter ∷ footer_bytes (footer_of lo hi blocks filter) ∷ []
+    map block_body blocks ++ index_bytes table_keys (handles_from 0 blocks) ∷ filter ∷ footer_bytes (footer_of lo hi blocks filter) ∷ []
 
 -- These entries in these blocks are those of a table: at least one entry, keys that strictly rise, blocks that are filled in order, and an
 -- index that a frame has room for. Both numbers of the interval are in range.
@@ -46,7 +48,7 @@ pub record AreBlocksOf (lo hi : ℕ) (entries : List Entry) (blocks : List (List
   pub rising : AreEntries entries
   pub whole : items_of blocks ≡ entries
   pub filled : AreFilled block_body blocks
-  pub few : length (index_bytes (handles_from 0 blocks)) < 2 ^ 32
+  pub few : length (index_bytes table_keys (handles_from 0 blocks)) < 2 ^ 32
   pub from : lo < 2 ^ 62
   pub to : hi < 2 ^ 62
 
@@ -73,8 +75,8 @@ pub record IsTableBut (bytes : List ℕ) (lo hi : ℕ) (entries : List Entry) (f
 -- bytes, these are their table.
 pub record Represents {S : Type 0} (told : S → Option (List ℕ)) (table : Table S) (entries : List Entry) : Type 0 where
   pub blocks : List (List Entry)
-  pub parts : IsTableOf table.footer.lo table.footer.hi entries blocks table.filter
-  pub footer : table.footer ≡ footer_of table.footer.lo table.footer.hi blocks table.filter
+  pub parts : IsTableOf table.footer.low table.footer.high entries blocks table.filter
+  pub footer : table.footer ≡ footer_of table.footer.low table.footer.high blocks table.filter
   pub index : table.index ≡ handles_from 0 blocks
-  pub len : table.file.len ≡ length (numbered_frames (table_bodies table.footer.lo table.footer.hi blocks table.filter))
-  pub file : IfSome (told table.file.file) (λ bytes. bytes ≡ numbered_frames (table_bodies table.footer.lo table.footer.hi blocks table.filter))
+  pub len : table.file.len ≡ length (numbered_frames (table_bodies table.footer.low table.footer.high blocks table.filter))
+  pub file : IfSome (told table.file.file) (λ bytes. bytes ≡ numbered_frames (table_bodies table.footer.low table.footer.high blocks table.filter))

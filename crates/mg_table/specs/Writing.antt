@@ -5,32 +5,35 @@ use Rattle.mg_block.specs.Block.{block_of}
 use Rattle.mg_block.specs.declared.pair.Pair.{Pair}
 use Rattle.mg_bloom.specs.Bloom.{bit_count, IsBitCountFor}
 use Rattle.mg_bloom.specs.Folding.{HasBitsOf}
+use Rattle.mg_types.specs.Bytes.{IsKey}
 use Rattle.mg_types.specs.declared.names.FileId.{FileId}
 use Rattle.mg_sealed.specs.Filling.{AreFilled, items_of}
 use Rattle.mg_sealed.specs.Writing.{Written, HasFrames}
 use Rattle.mg_table.specs.Entries.{block_body, first_key, pair_of, AreEntries}
-use Rattle.mg_table.specs.Index.{handles_from, index_bytes, IsHandle}
+use Rattle.mg_table.specs.Index.{handles_from, IsHandle}
+use Rattle.mg_indexed.specs.Index.{index_bytes}
+use Rattle.mg_indexed.specs.TableKeys.{table_keys}
 use Rattle.mg_types.specs.declared.faults.Fault.{Fault}
 use Rattle.mg_types.specs.declared.faults.Fault.TheVariants.{Worn}
 use Rattle.mg_table.specs.Table.{hashed_keys, sizes_of}
 use Rattle.mg_types.specs.declared.items.Entry.{Entry}
-use Rattle.mg_table.specs.declared.index.BlockHandle.{BlockHandle}
+use Rattle.mg_indexed.specs.declared.handle.BlockHandle.{BlockHandle}
 
 -- the blocks that were closed: their frames, and where they stand
 pub record ClosedBlocks (D : Type 0) : Type 0 where
   pub frames : Written D
-  pub index : List BlockHandle
+  pub index : List (BlockHandle (List ℕ))
 
 -- no frame is longer than a full block's, each has its handle in the index, and the index has room in a frame
 pub record AreBounded {D : Type 0} (closed : ClosedBlocks D) : Type 0 where
   pub len : closed.frames.len ≤ 4116 * closed.frames.count
   pub index : closed.frames.count ≤ length closed.index
   pub handles : All IsHandle closed.index
-  pub bytes : length (index_bytes closed.index) < 2 ^ 32
+  pub bytes : length (index_bytes table_keys closed.index) < 2 ^ 32
 
 -- how many bytes the index has
 abbrev pub index_length : {D : Type 0} → ClosedBlocks D → ℕ
-index_length closed = length (index_bytes closed.index)
+index_length closed = length (index_bytes table_keys closed.index)
 
 -- Where a pair begins a block, the index has room for its handle, behind that of the open block.
 abbrev pub HasRoom : {D : Type 0} → ClosedBlocks D → List Pair → List ℕ → Pair → Type 0
@@ -70,6 +73,7 @@ pub record IsBounded {D : Type 0} (writer : Writing D) : Type 0 where
   pub hi : writer.hi < 2 ^ 62
   pub block : length (block_of writer.block) ≤ 4096
   pub first : length writer.first ≤ 250
+  pub key : writer.block ≢ [] → IsKey writer.first
   pub most : writer.most ≤ 2 ^ 40
   pub count : writer.count ≤ writer.most
   pub filter : IsBitCountFor writer.most (bit_count writer.filter)

@@ -5,11 +5,10 @@ ghost use Rattle.mg_table.specs.Entries.{first_key};
 ghost use Rattle.mg_table.specs.Scanning.{item_length, last_key, AreCounted, IsNext};
 ghost use Rattle.mg_table.specs.Table.{sizes_of};
 
-use crate::footer::Footer;
-use crate::index::BlockHandle;
 use mg_block::shared_len;
+use mg_indexed::{BlockHandle, Footer};
 use mg_sealed::BLOCK_LIMIT;
-use mg_types::{Entry, Fault, FileId};
+use mg_types::{Entry, Fault, FileId, Key};
 use std::cmp::Ordering;
 
 /// The bytes of an entry's item beside what of its key it spells: the counts of three fields, and the payload.
@@ -48,7 +47,7 @@ fn item_len(previous: &[u8], key: &[u8]) -> usize
 /// bytes: it begins with the key that the index says, above theirs, is not too large, and could not have begun later.
 pub(crate) fn check_block(
     id: FileId,
-    handle: &BlockHandle,
+    handle: &BlockHandle<Key>,
     entries: &[Entry],
     listed: usize,
     len: usize,
@@ -57,8 +56,8 @@ pub(crate) fn check_block(
     requires listed { listed ≤ length entries.now }
     requires len { len < 2 ^ 32 }
     ensures { MatchResult result
-        (λ _. IsNext handle.now.key (take listed entries.now) len (drop listed entries.now) size)
-        (λ fault. (IsNext handle.now.key (take listed entries.now) len (drop listed entries.now) size → ⊥)
+        (λ _. IsNext handle.now.first (take listed entries.now) len (drop listed entries.now) size)
+        (λ fault. (IsNext handle.now.first (take listed entries.now) len (drop listed entries.now) size → ⊥)
         × (fault ≡ Fault.Malformed id handle.now.at)) }
 {
     let malformed = Fault::Malformed {
@@ -67,7 +66,7 @@ pub(crate) fn check_block(
     };
     let (before, block) = entries.split_at(listed);
     let first = first_key(block);
-    if first != handle.key.as_slice() || size > BLOCK_LIMIT {
+    if first != handle.first.bytes() || size > BLOCK_LIMIT {
         return Err(malformed);
     }
     let last = last_key(before);
@@ -100,10 +99,10 @@ pub(crate) fn check_counts(
         (λ fault. (AreCounted footer.now entries.now → ⊥) × (fault ≡ Fault.Malformed id at)) }
 {
     let malformed = Fault::Malformed { file: id, at };
-    if entries.len() as u64 != footer.entries {
+    if entries.len() as u64 != footer.count {
         return Err(malformed);
     }
-    let sizes = footer.sizes;
+    let sizes = footer.sum;
     let Some(sum) = sum_of_sizes(entries) else {
         return Err(malformed);
     };

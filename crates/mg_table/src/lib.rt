@@ -7,8 +7,6 @@
 mod checks;
 mod entry;
 mod filters;
-mod footer;
-mod index;
 pub mod laws;
 mod load;
 mod reading;
@@ -17,7 +15,5 @@ mod table;
 mod tests;
 mod writer;
 
-pub use footer::Footer;
-pub use index::BlockHandle;
 pub use table::Table;
 pub use writer::TableWriter;

@@ -19,11 +19,11 @@ ghost use Rattle.mg_types.specs.declared.items.Entry.{Entry};
 
 use crate::checks::{check_block, check_counts};
 use crate::entry::{Payload, Refused, take_payload};
-use crate::index::BlockHandle;
 use crate::load::FOOTER_LEN;
 use crate::table::Table;
 use mg_block::BlockCursor;
 use mg_bloom::HashedKey;
+use mg_indexed::BlockHandle;
 use mg_items::Items;
 use mg_sealed::{BLOCK_LIMIT, Blocks, malformed};
 use mg_types::{Entry, Fault, FileId, Key, NUMBER_LIMIT};
@@ -111,7 +111,7 @@ impl<S: Drop> Table<S> {
             (blocks : List (List Entry)) × AreRead self.now.file.id bytes 0 self.now.index blocks × AreFilled block_body blocks
             × (entries ≡ items_of blocks))) }
         ensures whole { IfOk result (λ entries. IfSome (F.Files.told self.now.file.file) (λ bytes. self.now.file.len ≡ length bytes →
-            IsRead self.now.file.id bytes self.now → IsTableBut bytes self.now.footer.lo self.now.footer.hi entries self.now.filter)) }
+            IsRead self.now.file.id bytes self.now → IsTableBut bytes self.now.footer.low self.now.footer.high entries self.now.filter)) }
         ensures refusals { IfErr result (λ fault. IsOutside fault ⊎ HasUnfit self.now fault
             ⊎ (fault ≡ Fault.Malformed self.now.file.id (self.now.file.len - 73))) }
         ensures causes { IfErr result (λ fault. IfSome (F.Files.told self.now.file.file) (λ bytes. self.now.file.len ≡ length bytes →
@@ -151,7 +151,7 @@ fn block_for<S>(table: &Table<S>, key: &Key, hashed: &HashedKey) -> Option<usize
         (IsSoughtNowhere table.now key.now)
         (λ number. IsSoughtIn table.now key.now number) }
     ensures only { (entries : List Entry) (blocks : List (List Entry)) →
-        IsTableOf table.now.footer.lo table.now.footer.hi entries blocks table.now.filter → table.now.index ≡ handles_from 0 blocks →
+        IsTableOf table.now.footer.low table.now.footer.high entries blocks table.now.filter → table.now.index ≡ handles_from 0 blocks →
         MatchOption result
         (entry_of key.now entries ≡ None)
         (λ number. HoldsAt (λ block. entry_of key.now entries ≡ entry_of key.now block) blocks number) }
@@ -163,16 +163,16 @@ fn block_for<S>(table: &Table<S>, key: &Key, hashed: &HashedKey) -> Option<usize
 }
 
 /// A number of blocks, of which the last begins with no key above this one, and behind which a block with one above follows.
-fn blocks_up_to(index: &[BlockHandle], key: &[u8]) -> usize
+fn blocks_up_to(index: &[BlockHandle<Key>], key: &[u8]) -> usize
     ensures within { result ≤ length index.now }
-    ensures last { 0 < result → HoldsAt (λ handle. Precedes key.now handle.key → ⊥) index.now (result - 1) }
-    ensures following { result < length index.now → HoldsAt (λ handle. Precedes key.now handle.key) index.now result }
+    ensures last { 0 < result → HoldsAt (λ handle. Precedes key.now handle.first → ⊥) index.now (result - 1) }
+    ensures following { result < length index.now → HoldsAt (λ handle. Precedes key.now handle.first) index.now result }
 {
     let mut low = 0;
     let mut high = index.len();
     while low < high {
         let middle = low + (high - low) / 2;
-        if key.cmp(index[middle].key.as_slice()) == Ordering::Less {
+        if key.cmp(index[middle].first.bytes()) == Ordering::Less {
             high = middle;
         } else {
             low = middle + 1;
@@ -193,12 +193,12 @@ fn begins_with(block: &[u8], key: &[u8]) -> bool
 }
 
 /// Judges the front of a block: it begins with the key that the index says, and so it has an entry.
-fn check_first(id: FileId, handle: &BlockHandle, block: &[u8]) -> Result<(), Fault>
+fn check_first(id: FileId, handle: &BlockHandle<Key>, block: &[u8]) -> Result<(), Fault>
     ensures { MatchResult result
-        (λ _. BeginsWithKey block.now handle.now.key)
-        (λ fault. (BeginsWithKey block.now handle.now.key → ⊥) × (fault ≡ Fault.Malformed id handle.now.at)) }
+        (λ _. BeginsWithKey block.now handle.now.first)
+        (λ fault. (BeginsWithKey block.now handle.now.first → ⊥) × (fault ≡ Fault.Malformed id handle.now.at)) }
 {
-    if !begins_with(block, handle.key.as_slice()) {
+    if !begins_with(block, handle.first.bytes()) {
         return Err(malformed(id, handle.at));
     }
     Ok(())

@@ -137,7 +137,7 @@ fn the_worked_table_is_loaded(rt: HostRuntime) -> Result<(), Fail> {
     assert_eq!(rt; table.span(), (0, 3));
     assert_eq!(rt; table.index.len(), 1);
     let handle = &table.index.as_slice()[0];
-    assert_eq!(rt; handle.key.as_slice(), b"a".as_slice());
+    assert_eq!(rt; handle.first.bytes(), b"a".as_slice());
     assert_eq!(rt; (handle.at, handle.len), (0, 54));
     assert_eq!(rt;
         table.filter.bytes(),

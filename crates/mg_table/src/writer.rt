@@ -8,19 +8,19 @@ ghost use Rattle.mg_bloom.specs.Folding.{KeepsWords};
 ghost use Rattle.mg_faults.specs.Causes.{HasCause};
 ghost use Rattle.mg_sealed.specs.Answers.{IsUnwritten};
 ghost use Rattle.mg_table.specs.Entries.{block_body, first_key, pair_of, payload_of};
+ghost use Rattle.mg_types.specs.Bytes.{IsKey};
 ghost use Rattle.mg_types.specs.Items.{IsEntry};
 ghost use Rattle.mg_table.specs.Table.{Represents};
 ghost use Rattle.mg_table.specs.Writing.{index_length, Fills, HasBlocks, HasEntries, HasRoom, IsFull, IsReady};
 ghost use Rattle.mg_types.specs.declared.items.Entry.{Entry};
 
 use crate::entry::put_payload;
-use crate::footer::{Footer, footer_body};
-use crate::index::{BlockHandle, index_body};
 use crate::table::Table;
 use mg_block::BlockBuilder;
 use mg_bloom::Filter;
 use mg_disk::Files;
 use mg_frame::FRAME_OVERHEAD;
+use mg_indexed::{BlockHandle, Footer, footer_body, index_body};
 use mg_items::Items;
 use mg_sealed::{BLOCK_LIMIT, FrameWriter, append_frame, grown, seal_frames, start_frames};
 use mg_types::{Entry, Fault, FileId, Key};
@@ -34,21 +34,22 @@ const HANDLE_OVERHEAD: u64 = 13;
 #[derive(Drop)]
 struct Closed<D> {
     frames: FrameWriter<D>,
-    index: Items<BlockHandle>,
+    index: Items<BlockHandle<Key>>,
     /// How many bytes the body of the index has.
     index_len: u64,
 }
 
 impl<D> Model for Closed<D> {
     ghost use Rattle.std.specs.Prelude.{◌≡◌, length};
-    ghost use Rattle.mg_table.specs.Index.{index_bytes};
+    ghost use Rattle.mg_indexed.specs.Index.{index_bytes};
+    ghost use Rattle.mg_indexed.specs.TableKeys.{table_keys};
     ghost use Rattle.mg_table.specs.Writing.{ClosedBlocks, AreBounded};
 
     ghost Value = { ClosedBlocks D };
 
     ghost view = { λ c. record { frames = c.frames; index = c.index } };
 
-    ghost invariant = { λ c. AreBounded (record { frames = c.frames; index = c.index }) × (c.index_len ≡ length (index_bytes c.index)) };
+    ghost invariant = { λ c. AreBounded (record { frames = c.frames; index = c.index }) × (c.index_len ≡ length (index_bytes table_keys c.index)) };
 }
 
 /// A table in writing.
@@ -207,7 +208,7 @@ impl<D: Drop> TableWriter<D> {
         requires some { self.block ≢ [] }
         ensures table { (entries : List Entry) → HasEntries F.drafted self entries →
             IfOk result (λ table. Represents F.told table entries) }
-        ensures span { IfOk result (λ table. (table.footer.lo ≡ self.lo) × (table.footer.hi ≡ self.hi)) }
+        ensures span { IfOk result (λ table. (table.footer.low ≡ self.lo) × (table.footer.high ≡ self.hi)) }
         ensures id { IfOk result (λ table. table.file.id ≡ self.id) }
         ensures refusals { IfErr result (λ fault. IsUnwritten fault) }
         ensures cause { HasCause Fault.WriteFault (F.faults port.old) (F.faults port.new) result }
@@ -237,12 +238,12 @@ impl<D: Drop> TableWriter<D> {
         let index_at = append_frame(alloc, port, &mut frames, &index_bytes)?.at;
         let filter_at = append_frame(alloc, port, &mut frames, filter.bytes())?.at;
         let footer = Footer {
-            entries: count,
-            sizes,
-            lo,
-            hi,
+            count,
+            sum: sizes,
+            low: lo,
+            high: hi,
             index_at,
-            filter_at,
+            filter_at: Some(filter_at),
             blocks,
         };
         append_frame(alloc, port, &mut frames, &footer_body(alloc, &footer)?)?;
@@ -265,7 +266,7 @@ fn close_block<F: Files>(
     first: &[u8],
 ) -> Result<(), Fault>
     requires block { length block.now ≤ 4096 }
-    requires first { length first.now ≤ 250 }
+    requires first { IsKey first.now }
     requires room { index_length closed.old + (length first.now + 13) < 2 ^ 32 }
     ensures index { OnOk result (index_length closed.new ≡ index_length closed.old + (length first.now + 13)) }
     ensures blocks { (blocks : List (List Entry)) (entries : List Entry) → HasBlocks F.drafted closed.old blocks
@@ -274,15 +275,25 @@ fn close_block<F: Files>(
     ensures refusals { IfErr result (λ fault. IsUnwritten fault) }
     ensures cause { HasCause Fault.WriteFault (F.faults port.old) (F.faults port.new) result }
 {
-    let key = Items::from_slice(alloc, first)?;
+    let key = key_of(alloc, first)?;
     closed.index.push(BlockHandle {
-        key,
+        first: key,
         at: closed.frames.len(),
         len: block.len() as u32 + FRAME_OVERHEAD as u32,
     })?;
     closed.index_len += first.len() as u64 + HANDLE_OVERHEAD;
     append_frame(alloc, port, &mut closed.frames, block)?;
     Ok(())
+}
+
+/// The key of these bytes.
+fn key_of(alloc: Global, bytes: &[u8]) -> Result<Key, Fault>
+    requires { IsKey bytes.now }
+    ensures key { IfOk result (λ key. key ≡ bytes.now) }
+    ensures memory { IfErr result (λ fault. fault ≡ Fault.NoMemory) }
+{
+    let key = Key::new(alloc, bytes)?;
+    Ok(key.unwrap())
 }
 
 /// Judges that the index has room for the handle of the block that an entry of this key and payload begins, if it begins one.
@@ -322,6 +333,7 @@ fn keep_first(block: &BlockBuilder, key: &[u8], first: &mut Vec<u8>) -> Result<(
     ensures begun { OnOk result (block.now ≡ [] → first.new.items ≡ key.now) }
     ensures kept { OnOk result (block.now ≢ [] → first.new.items ≡ first.old.items) }
     ensures bound { length first.new.items ≤ 250 }
+    ensures key { OnOk result (IsKey key.now → (block.now ≢ [] → IsKey first.old.items) → IsKey first.new.items) }
     ensures err { OnErr result (block.now ≡ []) }
 {
     if !block.is_empty() {
@@ -356,7 +368,7 @@ fn make_room<F: Files>(
     payload: &[u8],
 ) -> Result<(), Fault>
     requires block { length (block_of block.old) ≤ 4096 }
-    requires first { length first.now ≤ 250 }
+    requires first { block.old ≢ [] → IsKey first.now }
     requires follows { Follows (last_pair block.old).key (record { key = key.now; payload = payload.now }) }
     requires payload { length payload.now ≡ 13 }
     requires room { HasRoom closed.old block.old first.now (record { key = key.now; payload = payload.now }) }

@@ -10,9 +10,9 @@ use Rattle.mg_sealed.specs.Answers.{IsOutside}
 use Rattle.mg_sealed.proofs.AnswerLaws.{err_is, err_then, ok_then, outside, some_any}
 use Rattle.mg_table.proofs.CauseLaws.{body_refused, find_read, find_refused, frame_refused}
 use Rattle.mg_table.proofs.FrontLaws.{block-begins}
-use Rattle.mg_table.proofs.RefusalLaws.{Under}
+use Rattle.mg_indexed.proofs.LoadingSteps.{Under}
 use Rattle.mg_table.proofs.ScanningLaws.{first-in-table}
-use Rattle.mg_table.specs.declared.index.BlockHandle.{BlockHandle}
+use Rattle.mg_indexed.specs.declared.handle.BlockHandle.{BlockHandle}
 use Rattle.mg_table.proofs.ReadingLaws.{answers-from, block-answered, block-refused, told-then}
 use Rattle.mg_table.proofs.table.Table.find_hashed.Goals as goal
 
@@ -55,7 +55,7 @@ returns-in_err-frame-clause-causes g c =
     let fault = c.in_err-frame.field-0.0 in
     err_is c.from_residual.result fault (λ f. Under told table.file.len (λ bytes. IsOutside f ⊎ IsFindRefused table bytes key f)) (grind (arith, common_steps))
     (find_refused told table key number fault c.in-Some.ensures.sought
-    (frame_refused told table number handle (λ (p : BlockHandle) body. IsFindUnfit table.file.id p body key) fault c.in-Some.ensures.sought.within is c.in_err-frame.ensures.told))
+    (frame_refused told table number handle (λ (p : BlockHandle (List ℕ)) body. IsFindUnfit table.file.id p body key) fault c.in-Some.ensures.sought.within is c.in_err-frame.ensures.told))
 
 pub returns-clause-causes : goal.returns-clause-causes
 returns-clause-causes g c =
@@ -66,11 +66,11 @@ returns-clause-causes g c =
     let handle = c.index-as_slice-number.result in
     let is : handle ≡ get_or table.index number handle = c.index-as_slice-number.is ∙ ap (λ ps. get_or ps number handle) c.as_slice.ensures in
     let id = table.file.id in
-    let begins : BeginsWithKey c.in_ok-frame.frame handle.key = subst (λ (body : List ℕ). BeginsWithKey body handle.key) c.body.ensures c.in_ok-check_first.ensures in
+    let begins : BeginsWithKey c.in_ok-frame.frame handle.first = subst (λ (body : List ℕ). BeginsWithKey body handle.first) c.body.ensures c.in_ok-check_first.ensures in
     err_then c.find_in_block-found.result (λ fault. (fault ≡ NoMemory) ⊎ IsSearchUnfit id handle.at c.body-2.result.now key fault)
     (λ fault. Under told table.file.len (λ bytes. IsOutside fault ⊎ IsFindRefused table bytes key fault))
     (λ fault same why. find_refused told table key number fault c.in-Some.ensures.sought
-    (body_refused told table number handle (λ (p : BlockHandle) body. IsFindUnfit id p body key) fault c.in_ok-frame.frame c.in-Some.ensures.sought.within is
+    (body_refused told table number handle (λ (p : BlockHandle (List ℕ)) body. IsFindUnfit id p body key) fault c.in_ok-frame.frame c.in-Some.ensures.sought.within is
     (elim (subst (λ (body : List ℕ). (fault ≡ NoMemory) ⊎ IsSearchUnfit id handle.at body key fault) c.body-2.ensures why) [
       | inl memory ↦ inl memory
       | inr unfit ↦ inr (inr (begins, unfit))
@@ -92,7 +92,7 @@ returns-clause-read g c =
     (λ found. MatchOption found (Misses c.body-2.result.now key) (λ entry. (entry.key ≡ key) × IsEntry entry × Finds c.body-2.result.now key (payload_of entry)))
     (λ found. Under told table.file.len (λ bytes. IsFindRead table bytes key found))
     (λ found h. find_read told table key number handle c.in_ok-frame.frame found c.in-Some.ensures.sought is
-    (subst (λ (body : List ℕ). BeginsWithKey body handle.key) c.body.ensures c.in_ok-check_first.ensures)
+    (subst (λ (body : List ℕ). BeginsWithKey body handle.first) c.body.ensures c.in_ok-check_first.ensures)
     (subst (λ (body : List ℕ). MatchOption found (Misses body key) (λ entry. (entry.key ≡ key) × IsEntry entry × Finds body key (payload_of entry))) c.body-2.ensures h)
     c.in_ok-frame.ensures.told)
     c.find_in_block-found.ensures.read
@@ -110,8 +110,8 @@ returns-in_err-check_first-clause-found g c =
     let block = get_or stands.blocks number [] in
     let read = block-answered told table entries stands bytes tells handle number within is c.in_ok-frame.frame known [] in
     let first = first-in-table told table entries stands number handle within is in
-    let begins = block-begins c.in_ok-frame.frame handle.key block read.0 first.0 first.1 in
-    absurd (c.in_err-check_first.ensures.0 (subst (λ (body : List ℕ). BeginsWithKey body handle.key) (sym c.body.ensures) begins)))
+    let begins = block-begins c.in_ok-frame.frame handle.first block read.0 first.0 first.1 in
+    absurd (c.in_err-check_first.ensures.0 (subst (λ (body : List ℕ). BeginsWithKey body handle.first) (sym c.body.ensures) begins)))
     c.in_ok-frame.ensures.told
 
 pub returns-in_err-check_first-clause-causes : goal.returns-in_err-check_first-clause-causes
@@ -124,10 +124,10 @@ returns-in_err-check_first-clause-causes g c =
     let is : handle ≡ get_or table.index number handle = c.index-as_slice-number.is ∙ ap (λ ps. get_or ps number handle) c.as_slice.ensures in
     let id = table.file.id in
     let fault = c.in_err-check_first.field-0.0 in
-    let never = subst (λ (body : List ℕ). BeginsWithKey body handle.key → ⊥) c.body.ensures c.in_err-check_first.ensures.0 in
+    let never = subst (λ (body : List ℕ). BeginsWithKey body handle.first → ⊥) c.body.ensures c.in_err-check_first.ensures.0 in
     err_is c.from_residual-in_err-check_first.result fault (λ f. Under told table.file.len (λ bytes. IsOutside f ⊎ IsFindRefused table bytes key f)) (grind (arith, common_steps))
     (find_refused told table key number fault c.in-Some.ensures.sought
-    (body_refused told table number handle (λ (p : BlockHandle) body. IsFindUnfit id p body key) fault c.in_ok-frame.frame c.in-Some.ensures.sought.within is
+    (body_refused told table number handle (λ (p : BlockHandle (List ℕ)) body. IsFindUnfit id p body key) fault c.in_ok-frame.frame c.in-Some.ensures.sought.within is
     (inr (inl (never, c.in_err-check_first.ensures.1))) c.in_ok-frame.ensures.told))
 
 pub returns-in_err-check_first-clause-refusals : goal.returns-in_err-check_first-clause-refusals

@@ -6,14 +6,14 @@ use Rattle.mg_table.specs.Entries.{block_body, pair_of}
 use Rattle.mg_table.specs.Scanning.{AreCounted, IsNext}
 use Rattle.mg_table.proofs.ScanningLaws.{counted-in-table, next-in-table}
 use Rattle.mg_types.specs.declared.items.Entry.{Entry}
-use Rattle.mg_table.specs.declared.index.BlockHandle.{BlockHandle}
+use Rattle.mg_indexed.specs.declared.handle.BlockHandle.{BlockHandle}
 use Rattle.mg_table.proofs.ScanLaws.{Lined, len_before-next, lined-more, lined-none, order_refused, counts_refused, parts-of, scan_refused, scanned-all, frame-read, scanned-more, scanned-whole}
 use Rattle.mg_types.specs.declared.faults.Fault.TheVariants.{Malformed, NoMemory}
 use Rattle.mg_sealed.specs.Answers.{IsOutside}
 use Rattle.mg_sealed.proofs.AnswerLaws.{err_is, outside, some_any, some_both}
 use Rattle.mg_table.specs.Reading.{AreRead, HasUnfit, IsListUnfit, IsScanRefused}
 use Rattle.mg_table.proofs.CauseLaws.{body_refused, frame_refused}
-use Rattle.mg_table.proofs.RefusalLaws.{under_then, Under}
+use Rattle.mg_indexed.proofs.LoadingSteps.{Under, under_then}
 use Rattle.mg_table.proofs.LoadingLaws.{length-handles_from}
 use Rattle.mg_table.proofs.ReadingLaws.{block-answered, block-refused, told-then}
 use Rattle.mg_table.proofs.table.Table.scan.Goals as goal
@@ -59,9 +59,9 @@ loop-number-preserved g c =
     let block = subst (λ (b : List ℕ). IsBlock b (map pair_of l.0)) c.body.ensures l.2 in
     let size : (length c.body-size.result.now) ≡ length frame = ap length c.body-size.ensures in
     let parts = parts-of c.loop-number.entries c.as_slice-in-loop-number.result.now l.0 c.len-listed.result (c.as_slice-in-loop-number.ensures ∙ l.1) c.len-listed.ensures in
-    let next : IsNext handle.key c.loop-number.entries c.loop-number.len l.0 (length c.body-size.result.now) =
-    subst (λ (es : List Entry). IsNext handle.key es c.loop-number.len l.0 (length c.body-size.result.now)) parts.0
-    (subst (λ (es : List Entry). IsNext handle.key (take c.len-listed.result c.as_slice-in-loop-number.result.now) c.loop-number.len es (length c.body-size.result.now)) parts.1
+    let next : IsNext handle.first c.loop-number.entries c.loop-number.len l.0 (length c.body-size.result.now) =
+    subst (λ (es : List Entry). IsNext handle.first es c.loop-number.len l.0 (length c.body-size.result.now)) parts.0
+    (subst (λ (es : List Entry). IsNext handle.first (take c.len-listed.result c.as_slice-in-loop-number.result.now) c.loop-number.len es (length c.body-size.result.now)) parts.1
     c.in_ok-check_block.ensures) in
     record {
       later = omega (arith, c.loop-number.invariant.later, c.in_ok-frame.ensures.cause.later);
@@ -101,7 +101,7 @@ returns-in_err-frame-clause-causes g c =
     let fault = c.in_err-frame.field-0.0 in
     err_is c.from_residual.result fault (λ f. Under told table.file.len (λ bytes. IsOutside f ⊎ IsScanRefused table bytes f)) (grind (arith, common_steps))
     (scan_refused told table number c.loop-number.entries c.loop-number.len fault within c.loop-number.invariant.lined
-    (frame_refused told table number handle (λ (p : BlockHandle) body. IsListUnfit table.file.id p.at body) fault within is c.in_err-frame.ensures.told))
+    (frame_refused told table number handle (λ (p : BlockHandle (List ℕ)) body. IsListUnfit table.file.id p.at body) fault within is c.in_err-frame.ensures.told))
 
 pub returns-in_err-list_block-clause-causes : goal.returns-in_err-list_block-clause-causes
 returns-in_err-list_block-clause-causes g c =
@@ -115,7 +115,7 @@ returns-in_err-list_block-clause-causes g c =
     let why = subst (λ (body : List ℕ). (fault ≡ NoMemory) ⊎ IsListUnfit table.file.id handle.at body fault) c.body.ensures c.in_err-list_block.ensures.causes in
     err_is c.from_residual-in_err-list_block.result fault (λ f. Under told table.file.len (λ bytes. IsOutside f ⊎ IsScanRefused table bytes f)) (grind (arith, common_steps))
     (scan_refused told table number c.loop-number.entries c.loop-number.len fault within c.loop-number.invariant.lined
-    (body_refused told table number handle (λ (p : BlockHandle) body. IsListUnfit table.file.id p.at body) fault c.in_ok-frame.frame within is why c.in_ok-frame.ensures.told))
+    (body_refused told table number handle (λ (p : BlockHandle (List ℕ)) body. IsListUnfit table.file.id p.at body) fault c.in_ok-frame.frame within is why c.in_ok-frame.ensures.told))
 
 pub returns-clause-read : goal.returns-clause-read
 returns-clause-read g c =
@@ -196,8 +196,8 @@ returns-in_err-check_block-clause-causes g c =
     let block = subst (λ (b : List ℕ). IsBlock b (map pair_of l.0)) c.body.ensures l.2 in
     let size : (length c.body-size.result.now) ≡ length frame = ap length c.body-size.ensures in
     let parts = parts-of c.loop-number.entries c.as_slice-in-loop-number.result.now l.0 c.len-listed.result (c.as_slice-in-loop-number.ensures ∙ l.1) c.len-listed.ensures in
-    let apart = subst (λ (es : List Entry). IsNext handle.key es c.loop-number.len l.0 (length c.body-size.result.now) → ⊥) parts.0
-    (subst (λ (es : List Entry). IsNext handle.key (take c.len-listed.result c.as_slice-in-loop-number.result.now) c.loop-number.len es (length c.body-size.result.now) → ⊥) parts.1
+    let apart = subst (λ (es : List Entry). IsNext handle.first es c.loop-number.len l.0 (length c.body-size.result.now) → ⊥) parts.0
+    (subst (λ (es : List Entry). IsNext handle.first (take c.len-listed.result c.as_slice-in-loop-number.result.now) c.loop-number.len es (length c.body-size.result.now) → ⊥) parts.1
     c.in_err-check_block.ensures.0) in
     let fault = c.in_err-check_block.field-0.0 in
     err_is c.from_residual-in_err-check_block.result fault (λ f. Under told table.file.len (λ bytes. IsOutside f ⊎ IsScanRefused table bytes f)) (grind (arith, common_steps))
