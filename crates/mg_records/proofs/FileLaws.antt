@@ -1,6 +1,6 @@
 -- The frames and the index of blocks, one block more at a time.
-use Rattle.std.proofs.Common.{◌≡◌, ℕ, ◌+◌, ◌*◌, List, [], ◌∷◌, ◌++◌, length, refl, sym, ap, ◌∙◌, arith, suc, append_assoc}
-use Rattle.std.proofs.lemmas.List.{append-nil, length-append}
+use Rattle.std.proofs.Common.{◌≡◌, ℕ, ◌+◌, ◌*◌, List, [], ◌∷◌, ◌++◌, length, refl, ap, ◌∙◌, arith, suc, false}
+use Rattle.std.proofs.lemmas.List.{length-append}
 use Rattle.std.proofs.lemmas.List.Sums.{sum_by-cons, sum_by_push}
 use Rattle.std.specs.Prelude.{map}
 use Rattle.std.specs.List.{enumerate_from}
@@ -9,10 +9,14 @@ use Rattle.mg_frame.specs.Frames.{frames, numbered_frames}
 use Rattle.mg_frame.specs.BigEndian.{big_endian}
 use Rattle.mg_frame.proofs.BigEndianLaws.{length-big_endian}
 use Rattle.mg_frame.proofs.FrameLaws.{length-frame}
-use Rattle.mg_records.specs.File.{block_of, first_number, handle_bytes, index_bytes, footer_bytes, frame_length, index_from, end_of}
+use Rattle.mg_sealed.proofs.WritingLaws.{numbered-more}
+use Rattle.mg_indexed.specs.Footer.{footer_bytes}
+use Rattle.mg_indexed.specs.Index.{handle_bytes, index_bytes}
+use Rattle.mg_indexed.specs.NumberKeys.{number_keys}
+use Rattle.mg_indexed.proofs.FieldLaws.{length-footer_bytes, length-item_bytes}
+use Rattle.mg_records.specs.File.{block_of, first_number, frame_length, index_from, end_of, footer_of, bodies_of}
 use Rattle.mg_records.specs.Record.{Kind}
-use Rattle.mg_records.specs.declared.footer.Footer.{Footer}
-use Rattle.mg_records.specs.declared.index.BlockHandle.{BlockHandle}
+use Rattle.mg_indexed.specs.declared.handle.BlockHandle.{BlockHandle}
 
 pub length-index_from : {T : Type 0} (kind : Kind T) (at : ℕ) (blocks : List (List T)) → length (index_from kind at blocks) ≡ length blocks
 length-index_from kind at [] = refl
@@ -48,48 +52,28 @@ pub length-blocks : {T : Type 0} (kind : Kind T) (blocks : List (List T)) → le
 unfolding numbered_frames
 length-blocks kind blocks = frames_from-length kind 0 blocks
 
-pub length-handle_bytes : (handle : BlockHandle) → length (handle_bytes handle) ≡ 20
-length-handle_bytes handle =
-    omega (
-      arith,
-      length-append (big_endian 8 handle.first ++ big_endian 8 handle.at) (big_endian 4 handle.len),
-      length-append (big_endian 8 handle.first) (big_endian 8 handle.at),
-      length-big_endian 8 handle.first,
-      length-big_endian 8 handle.at,
-      length-big_endian 4 handle.len,
-    )
+length-handle_bytes : (handle : BlockHandle ℕ) → length (handle_bytes number_keys handle) ≡ 20
+length-handle_bytes handle = omega (arith, length-item_bytes (big_endian 8 handle.first) handle.at handle.len, length-big_endian 8 handle.first)
 
-pub length-index_bytes : (handles : List BlockHandle) → length (index_bytes handles) ≡ 20 * length handles
+pub length-index_bytes : (handles : List (BlockHandle ℕ)) → length (index_bytes number_keys handles) ≡ 20 * length handles
 length-index_bytes [] = refl
-length-index_bytes (e ∷ handles) = omega (arith, length-append (handle_bytes e) (index_bytes handles), length-handle_bytes e, length-index_bytes handles)
+length-index_bytes (e ∷ handles) =
+    omega (arith, length-append (handle_bytes number_keys e) (index_bytes number_keys handles), length-handle_bytes e, length-index_bytes handles)
 
-pub index_bytes-push : (handles : List BlockHandle) (e : BlockHandle) → index_bytes (handles ++ e ∷ []) ≡ index_bytes handles ++ handle_bytes e
-index_bytes-push [] e = append-nil (handle_bytes e)
-index_bytes-push (d ∷ handles) e =
-    ap (λ bytes. handle_bytes d ++ bytes) (index_bytes-push handles e) ∙ sym (append_assoc (handle_bytes d) (index_bytes handles) (handle_bytes e))
-
-pub length-footer_bytes : (footer : Footer) → length (footer_bytes footer) ≡ 45
-length-footer_bytes footer =
-    let a = big_endian 1 1 in
-    let b = big_endian 8 footer.records in
-    let c = big_endian 8 footer.sum in
-    let d = big_endian 8 footer.first in
-    let e = big_endian 8 footer.last in
-    let f = big_endian 8 footer.index in
-    let h = big_endian 4 footer.blocks in
-    omega (
+-- the length of a file
+pub file_ends : {T : Type 0} (kind : Kind T) (blocks : List (List T)) → length (numbered_frames (bodies_of kind blocks)) ≡ end_of kind blocks + (length (index_bytes number_keys (index_from kind 0 blocks)) + 20) + 65
+file_ends kind blocks =
+    let index = index_bytes number_keys (index_from kind 0 blocks) in
+    let footer = footer_bytes (footer_of kind blocks) in
+    let before = map (block_of kind) blocks in
+    ap length (numbered-more (before ++ index ∷ []) footer)
+    ∙ length-append (numbered_frames (before ++ index ∷ [])) (frame (length (before ++ index ∷ [])) footer)
+    ∙ omega (
       arith,
-      length-append (((((a ++ b) ++ c) ++ d) ++ e) ++ f) h,
-      length-append ((((a ++ b) ++ c) ++ d) ++ e) f,
-      length-append (((a ++ b) ++ c) ++ d) e,
-      length-append ((a ++ b) ++ c) d,
-      length-append (a ++ b) c,
-      length-append a b,
-      length-big_endian 1 1,
-      length-big_endian 8 footer.records,
-      length-big_endian 8 footer.sum,
-      length-big_endian 8 footer.first,
-      length-big_endian 8 footer.last,
-      length-big_endian 8 footer.index,
-      length-big_endian 4 footer.blocks,
+      length-frame (length (before ++ index ∷ [])) footer,
+      length-footer_bytes false (footer_of kind blocks) refl,
+      ap length (numbered-more before index),
+      length-append (numbered_frames before) (frame (length before) index),
+      length-frame (length before) index,
+      length-blocks kind blocks,
     )

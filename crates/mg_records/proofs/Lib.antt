@@ -1,13 +1,11 @@
 pub mod BlockLaws
 mod ContentsReading
 pub mod HandleLaws
-pub mod FieldLaws
 pub mod FileLaws
 pub mod FooterCounts
 mod ItemReading
 pub mod ListLaws
 pub mod LoadingLaws
-pub mod LoadingSteps
 pub mod ListingLaws
 pub mod LookupLaws
 pub mod RecordLaws

@@ -1,5 +1,5 @@
 -- Files and lists of records determine each other.
-use Rattle.std.proofs.Common.{◌≡◌, ℕ, ◌<◌, ◌^◌, List, [], ◌∷◌, length, refl, sym, ap, ◌∙◌, arith}
+use Rattle.std.proofs.Common.{◌≡◌, ℕ, ◌<◌, ◌^◌, List, [], ◌∷◌, ◌++◌, length, refl, sym, ap, ◌∙◌, arith, false}
 use Rattle.std.proofs.lemmas.List.{length-append, length-map}
 use Rattle.std.proofs.lemmas.List.Elements.{All-append, All-cons, All-nil}
 use Rattle.std.specs.Prelude.{map}
@@ -9,11 +9,15 @@ use Rattle.mg_sealed.specs.Filling.{AreFilled, items_of, Grows}
 use Rattle.mg_sealed.specs.Lists.{FitFrames}
 use Rattle.mg_sealed.proofs.FillingLaws.{one_filling}
 use Rattle.mg_sealed.proofs.ListLaws.{one_list_of_frames, same_parts}
-use Rattle.mg_records.specs.File.{block_of, index_from, index_bytes, footer_of, footer_bytes, bodies_of, AreBlocks}
+use Rattle.mg_indexed.specs.Footer.{footer_bytes}
+use Rattle.mg_indexed.specs.Index.{index_bytes}
+use Rattle.mg_indexed.specs.NumberKeys.{number_keys}
+use Rattle.mg_indexed.proofs.FieldLaws.{length-footer_bytes}
+use Rattle.mg_records.specs.File.{block_of, index_from, footer_of, bodies_of, AreBlocks}
 use Rattle.mg_records.specs.Lists.{OneList, OneFileOfList}
 use Rattle.mg_records.specs.Record.{Kind, IsLawful, IsRecord}
 use Rattle.mg_records.proofs.BlockLaws.{block_of-append, each-left, each-right}
-use Rattle.mg_records.proofs.FileLaws.{length-index_from, length-index_bytes, length-footer_bytes}
+use Rattle.mg_records.proofs.FileLaws.{length-index_from, length-index_bytes}
 use Rattle.mg_records.proofs.LoadingLaws.{most_bytes}
 use Rattle.mg_records.proofs.ScanLaws.{same_records}
 
@@ -47,22 +51,24 @@ small_blocks kind lawful (b ∷ blocks) filled fit =
 fit_frames : {T : Type 0} (kind : Kind T) → IsLawful kind → (blocks : List (List T)) → AreBlocks kind blocks → FitFrames (bodies_of kind blocks)
 unfolding Small
 fit_frames kind lawful blocks are =
-    let index = index_bytes (index_from kind 0 blocks) in
+    let index = index_bytes number_keys (index_from kind 0 blocks) in
     let footer = footer_bytes (footer_of kind blocks) in
     let before = map (block_of kind) blocks in
     let small : length index < 2 ^ 32 = omega (arith, are.few, length-index_bytes (index_from kind 0 blocks), length-index_from kind 0 blocks) in
-    let small' : length footer < 2 ^ 32 = omega (arith, length-footer_bytes (footer_of kind blocks)) in
+    let small' : length footer < 2 ^ 32 = omega (arith, length-footer_bytes false (footer_of kind blocks) refl) in
     record {
-      few = omega (arith, are.few, length-append before (index ∷ footer ∷ []), length-map blocks (block_of kind));
-      small = All-append Small before (index ∷ footer ∷ []) (small_blocks kind lawful blocks are.filled are.fit)
-          (All-cons Small index (footer ∷ []) small (All-cons Small footer [] small' (All-nil Small)));
+      few = omega (arith, are.few, length-append (before ++ index ∷ []) (footer ∷ []), length-append before (index ∷ []), length-map blocks (block_of kind));
+      small = All-append Small (before ++ index ∷ []) (footer ∷ [])
+          (All-append Small before (index ∷ []) (small_blocks kind lawful blocks are.filled are.fit) (All-cons Small index [] small (All-nil Small)))
+          (All-cons Small footer [] small' (All-nil Small));
     }
 
 pub one_list : {T : Type 0} (kind : Kind T) → IsLawful kind → OneList kind
 one_list kind lawful bytes records others is is' =
     let frames = one_list_of_frames (bodies_of kind is.blocks) (bodies_of kind is'.blocks) (fit_frames kind lawful is.blocks is.are) (fit_frames kind lawful is'.blocks is'.are)
     (sym is.spelling ∙ is'.spelling) in
-    let parts = same_parts (map (block_of kind) is.blocks) (map (block_of kind) is'.blocks) _ _ refl frames in
+    let front = same_parts (map (block_of kind) is.blocks ++ _ ∷ []) (map (block_of kind) is'.blocks ++ _ ∷ []) _ _ refl frames in
+    let parts = same_parts (map (block_of kind) is.blocks) (map (block_of kind) is'.blocks) _ _ refl front.0 in
     let blocks = same_blocks kind lawful is.blocks is'.blocks is.are.fit is'.are.fit parts.0 in
     sym is.all ∙ ap items_of blocks ∙ is'.all
 

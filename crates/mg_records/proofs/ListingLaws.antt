@@ -9,6 +9,7 @@ use Rattle.mg_sealed.specs.Answers.{IsOutside}
 use Rattle.mg_sealed.specs.Filling.{items_of}
 use Rattle.mg_sealed.proofs.AnswerLaws.{some_both, some_then}
 use Rattle.mg_sealed.proofs.FilledLaws.{items_of-push}
+use Rattle.mg_indexed.specs.Forms.{Form}
 use Rattle.mg_records.specs.File.{last_number, IsFile}
 use Rattle.mg_records.specs.Lookup.{AreBlocksOf, AreTotals, Follows, HasTotals, IsBlockAt, IsBlockRefused, IsBodyRefused, IsListed, IsScanRefused, IsScanned, IsSpan, StartsAt, WereListed, last_length}
 use Rattle.mg_records.specs.Reading.{IsKept, IsRead}
@@ -121,7 +122,7 @@ scan_refused {T} {S} kind told filed after before fault read =
 -- ---- all blocks were read
 
 listed_whole : {T S : Type 0} (kind : Kind T) (bytes : List ℕ) (filed : Filed S) (after start number : ℕ) (found : List T) (before last : ℕ) → start < length filed.index → number ≡ length filed.index → StartsAt filed after start
-    → last ≡ filed.footer.last → IsListedUpTo kind bytes filed after start number found before last → IsListed kind bytes filed after found
+    → last ≡ filed.footer.high → IsListedUpTo kind bytes filed after start number found before last → IsListed kind bytes filed after found
 listed_whole kind bytes filed after start number found before last within ends starts last_is l = record {
   start = start;
   count = l.count;
@@ -134,7 +135,7 @@ listed_whole kind bytes filed after start number found before last within ends s
 }
 
 pub listed_all : {T S : Type 0} (kind : Kind T) (told : Option (List ℕ)) (filed : Filed S) (after start number : ℕ) (found : List T) (before last : ℕ) → start < length filed.index → number ≡ length filed.index
-    → StartsAt filed after start → last ≡ filed.footer.last
+    → StartsAt filed after start → last ≡ filed.footer.high
     → IfSome told (λ bytes. filed.file.len ≡ length bytes → IsListedUpTo kind bytes filed after start number found before last)
     → IfSome told (λ bytes. filed.file.len ≡ length bytes → IsListed kind bytes filed after found)
 listed_all kind told filed after start number found before last within ends starts last_is read =
@@ -142,24 +143,24 @@ listed_all kind told filed after start number found before last within ends star
     (λ bytes h same. listed_whole kind bytes filed after start number found before last within ends starts last_is (h same)) read
 
 -- blocks from the first one on are those of the file
-all_front : {T S : Type 0} (kind : Kind T) (bytes : List ℕ) (filed : Filed S) (after start count : ℕ) (blocks : List (List T)) → IsKept filed.footer filed.index → after < filed.footer.first → StartsAt filed after start
-    → start + count ≡ length filed.index → AreBlocksOf kind bytes filed start count blocks → IsFront kind bytes filed (length filed.index) blocks
-all_front {T} kind bytes filed after start count blocks kept below (inl none) up_to are =
+all_front : {T S : Type 0} (kind : Kind T) (form : Form) (bytes : List ℕ) (filed : Filed S) (after start count : ℕ) (blocks : List (List T)) → IsKept form filed.footer filed.index → after < filed.footer.low → StartsAt filed after start
+    → start + count ≡ length filed.index → AreBlocksOf kind bytes filed start count blocks → IsFront kind form bytes filed (length filed.index) blocks
+all_front {T} kind form bytes filed after start count blocks kept below (inl none) up_to are =
     let count' : count ≡ length filed.index = omega (arith, up_to, none.0) in
-    subst (λ (n : ℕ). IsFront kind bytes filed n blocks) count' (fronts kind bytes filed count blocks kept (subst (λ (n : ℕ). AreBlocksOf kind bytes filed n count blocks) none.0 are))
-all_front kind bytes filed after start count blocks kept below (inr some) up_to are = absurd (omega (arith, some.0, below))
+    subst (λ (n : ℕ). IsFront kind form bytes filed n blocks) count' (fronts kind form bytes filed count blocks kept (subst (λ (n : ℕ). AreBlocksOf kind bytes filed n count blocks) none.0 are))
+all_front kind form bytes filed after start count blocks kept below (inr some) up_to are = absurd (omega (arith, some.0, below))
 
-pub whole_scan : {T S : Type 0} (kind : Kind T) (told : Option (List ℕ)) (filed : Filed S) (after last : ℕ) (found : List T) → IsKept filed.footer filed.index → after < filed.footer.first → AreTotals kind filed after last found
-    → IfSome told (λ bytes. filed.file.len ≡ length bytes → IsListed kind bytes filed after found) → IfSome told (λ bytes. IsRead bytes filed → IsFile kind bytes found)
-whole_scan {T} {S} kind told filed after last found kept below totals listed =
-    some_then told (λ bytes. filed.file.len ≡ length bytes → IsListed kind bytes filed after found) (λ bytes. IsRead bytes filed → IsFile kind bytes found)
+pub whole_scan : {T S : Type 0} (kind : Kind T) (form : Form) (told : Option (List ℕ)) (filed : Filed S) (after last : ℕ) (found : List T) → IsKept form filed.footer filed.index → after < filed.footer.low → AreTotals kind filed after last found
+    → IfSome told (λ bytes. filed.file.len ≡ length bytes → IsListed kind bytes filed after found) → IfSome told (λ bytes. IsRead form bytes filed → IsFile kind bytes found)
+whole_scan {T} {S} kind form told filed after last found kept below totals listed =
+    some_then told (λ bytes. filed.file.len ≡ length bytes → IsListed kind bytes filed after found) (λ bytes. IsRead form bytes filed → IsFile kind bytes found)
     (λ bytes h read.
     let l = h read.len in
-    let front = all_front kind bytes filed after l.start l.count l.blocks kept below l.starts l.up_to l.are in
-    let all : found ≡ items_of l.blocks = l.found_are ∙ none_out kind bytes filed after l.blocks kept front below in
+    let front = all_front kind form bytes filed after l.start l.count l.blocks kept below l.starts l.up_to l.are in
+    let all : found ≡ items_of l.blocks = l.found_are ∙ none_out kind form bytes filed after l.blocks kept front below in
     let sums = totals.1 below in
     subst (λ (xs : List T). IsFile kind bytes xs) (sym all)
-    (whole_file kind bytes filed l.blocks kept read front l.last (ap length (sym all) ∙ sums.0) (ap (sum_by kind.size) (sym all) ∙ sums.1))) listed
+    (whole_file kind form bytes filed l.blocks kept read front l.last (ap length (sym all) ∙ sums.0) (ap (sum_by kind.size) (sym all) ∙ sums.1))) listed
 
 -- the count and the sum, which stays at the last number of 64 bits, are those of the records
 pub totals_are : {T S : Type 0} (kind : Kind T) (filed : Filed S) (after last count sum : ℕ) (found : List T) → filed.footer.sum < 2 ^ 62 → count ≡ length found → sum ≡ min (sum_by kind.size found) (2 ^ 64 - 1)
@@ -177,28 +178,28 @@ totals_of kind filed after last count sum found small counted summed totals = (
 )
 
 -- the footer does not tell of what was read
-untold : {T S : Type 0} (kind : Kind T) (bytes : List ℕ) (filed : Filed S) (after start number : ℕ) (found : List T) (before last : ℕ) → IsKept filed.footer filed.index → start < length filed.index → number ≡ length filed.index
+untold : {T S : Type 0} (kind : Kind T) (form : Form) (bytes : List ℕ) (filed : Filed S) (after start number : ℕ) (found : List T) (before last : ℕ) → IsKept form filed.footer filed.index → start < length filed.index → number ≡ length filed.index
     → StartsAt filed after start → (AreTotals kind filed after last found → ⊥) → (l : IsListedUpTo kind bytes filed after start number found before last)
     → AreTotals kind filed after (last_number kind (items_of l.blocks)) (items_of l.blocks) → ⊥
-untold {T} {S} kind bytes filed after start number found before last kept within ends starts none l totals =
+untold {T} {S} kind form bytes filed after start number found before last kept within ends starts none l totals =
     none (
       l.last_is (omega (arith, l.up_to, ends, within)) ∙ totals.0,
       λ below.
-          let front = all_front kind bytes filed after start l.count l.blocks kept below starts (l.up_to ∙ ends) l.are in
-          let all : found ≡ items_of l.blocks = l.found_are ∙ none_out kind bytes filed after l.blocks kept front below in
+          let front = all_front kind form bytes filed after start l.count l.blocks kept below starts (l.up_to ∙ ends) l.are in
+          let all : found ≡ items_of l.blocks = l.found_are ∙ none_out kind form bytes filed after l.blocks kept front below in
           let sums = totals.1 below in
           (ap length all ∙ sums.0, ap (sum_by kind.size) all ∙ sums.1),
     )
 
-pub totals_refused : {T S : Type 0} (kind : Kind T) (told : Option (List ℕ)) (filed : Filed S) (after start number : ℕ) (found : List T) (before last : ℕ) (fault : Fault) → IsKept filed.footer filed.index
+pub totals_refused : {T S : Type 0} (kind : Kind T) (form : Form) (told : Option (List ℕ)) (filed : Filed S) (after start number : ℕ) (found : List T) (before last : ℕ) (fault : Fault) → IsKept form filed.footer filed.index
     → start < length filed.index → number ≡ length filed.index → StartsAt filed after start → fault ≡ Malformed filed.file.id (filed.file.len - 65) → (AreTotals kind filed after last found → ⊥)
     → IfSome told (λ bytes. filed.file.len ≡ length bytes → IsListedUpTo kind bytes filed after start number found before last)
     → IfSome told (λ bytes. filed.file.len ≡ length bytes → IsOutside fault ⊎ IsScanRefused kind bytes filed after fault)
-totals_refused {T} {S} kind told filed after start number found before last fault kept within ends starts is none read =
+totals_refused {T} {S} kind form told filed after start number found before last fault kept within ends starts is none read =
     some_then told (λ bytes. filed.file.len ≡ length bytes → IsListedUpTo kind bytes filed after start number found before last)
     (λ bytes. filed.file.len ≡ length bytes → IsOutside fault ⊎ IsScanRefused kind bytes filed after fault)
     (λ bytes h same. let l = h same in inr (inr (
       l.blocks,
       (start, l.count, starts, l.up_to ∙ ends, l.are),
-      (is, untold kind bytes filed after start number found before last kept within ends starts none l),
+      (is, untold kind form bytes filed after start number found before last kept within ends starts none l),
     ))) read

@@ -1,25 +1,22 @@
--- The footer and the index of a file are those that a loader asks for.
-use Rattle.std.proofs.Common.{◌≡◌, ◌≢◌, ℕ, ◌+◌, ◌*◌, ◌<◌, ◌≤◌, ◌^◌, List, [], ◌∷◌, ◌++◌, length, refl, sym, ap, ◌∙◌, subst, inl, inr, arith, append_assoc, Ok}
+-- A file of records is a file of blocks, and its footer and its index agree.
+use Rattle.std.proofs.Common.{◌≡◌, ◌≢◌, ℕ, ◌+◌, ◌*◌, ◌<◌, ◌≤◌, ◌^◌, List, [], ◌∷◌, ◌++◌, length, refl, sym, ap, subst, inl, inr, arith, false}
 use Rattle.std.proofs.lemmas.List.{append-nil, length-append, length-map}
 use Rattle.std.proofs.lemmas.List.Sums.{sum_by-cons}
 use Rattle.std.specs.Prelude.{map}
 use Rattle.std.specs.List.{AllByRecursion}
-use Rattle.mg_frame.specs.Frame.{frame}
 use Rattle.mg_frame.specs.Frames.{numbered_frames}
-use Rattle.mg_frame.proofs.FrameLaws.{length-frame}
-use Rattle.mg_types.specs.declared.names.FileId.{FileId}
-use Rattle.mg_sealed.specs.Footer.{footer_body, said_blocks}
-use Rattle.mg_sealed.specs.Reading.{frame_body}
-use Rattle.mg_sealed.proofs.FooterLaws.{written_footer_is_read}
-use Rattle.mg_sealed.proofs.WritingLaws.{numbered-more}
-use Rattle.mg_sealed.proofs.WrittenLaws.{written_frame_is_read}
 use Rattle.mg_sealed.specs.Filling.{Fits, AreFilled, items_of}
-use Rattle.mg_records.specs.File.{block_of, first_number, last_number, last_number_after, frame_length, index_from, end_of, RiseAfter, AreRising, AreBlocks, footer_of, bodies_of, index_bytes, footer_bytes}
-use Rattle.mg_records.specs.Record.{record_bytes, Kind, IsLawful, IsRecord, record_bytes}
-use Rattle.mg_records.specs.Indexes.{IsIndexFrom, first_of, least_after}
-use Rattle.mg_records.specs.Reading.{IsFooter, IsKept}
-use Rattle.mg_records.proofs.FieldLaws.{said_blocks-footer}
-use Rattle.mg_records.proofs.FileLaws.{length-index_from, length-index_bytes, length-footer_bytes, length-blocks}
+use Rattle.mg_indexed.specs.Footer.{others, IsFooter}
+use Rattle.mg_indexed.specs.Forms.{Form}
+use Rattle.mg_indexed.specs.Index.{first_after, IsIndexFrom}
+use Rattle.mg_indexed.specs.Loading.{IsIndexed}
+use Rattle.mg_indexed.specs.NumberKeys.{number_keys}
+use Rattle.mg_records.specs.File.{block_of, first_number, last_number, last_number_after, frame_length, index_from, end_of, RiseAfter, AreRising, AreBlocks, footer_of, bodies_of}
+use Rattle.mg_records.specs.Framed.{IsFramed}
+use Rattle.mg_records.specs.Indexes.{first_of}
+use Rattle.mg_records.specs.Reading.{Agrees}
+use Rattle.mg_records.specs.Record.{record_bytes, Kind, IsLawful, IsRecord}
+use Rattle.mg_records.proofs.FileLaws.{length-index_from, length-index_bytes, length-blocks, file_ends}
 use Rattle.mg_records.proofs.RecordLaws.{most_in_record}
 use Rattle.mg_records.proofs.WithinLaws.{last_is_above, last_on}
 use Rattle.mg_records.proofs.BlockLaws.{each-left, each-right, most_records, sizes_in_count}
@@ -60,59 +57,77 @@ some_in_blocks kind [] some filled = absurd (some refl)
 some_in_blocks kind ([] ∷ blocks) some filled = absurd (filled.0.some refl)
 some_in_blocks kind ((x ∷ b) ∷ blocks) some filled = (omega arith, omega arith)
 
-pub footer_of_is_footer : {T : Type 0} (kind : Kind T) → IsLawful kind → (blocks : List (List T)) → AreBlocks kind blocks → IsFooter (footer_of kind blocks)
+footer_of_is_footer : {T : Type 0} (kind : Kind T) → IsLawful kind → (blocks : List (List T)) → AreBlocks kind blocks → IsFooter false (footer_of kind blocks)
 footer_of_is_footer kind lawful blocks are =
     let most = most_records kind lawful blocks are.filled are.fit in
     let few = are.few in
     let some = some_in_blocks kind blocks are.some are.filled in
     record {
-      records = omega (arith, most, few);
+      count = omega (arith, most, few);
       sum = omega (arith, most, few, sizes_in_count kind lawful (items_of blocks) are.fit);
-      first = first_in_range kind lawful (items_of blocks) are.fit;
-      last = last_in_range kind lawful 0 (omega arith) (items_of blocks) are.fit;
-      index = omega (arith, few, end_in_range kind lawful blocks are.filled are.fit);
+      low = first_in_range kind lawful (items_of blocks) are.fit;
+      high = last_in_range kind lawful 0 (omega arith) (items_of blocks) are.fit;
+      index_at = omega (arith, few, end_in_range kind lawful blocks are.filled are.fit);
+      filter_at = omega arith;
       blocks = omega (arith, few);
-      some_records = some.1;
+      form = refl;
+      some_items = some.1;
       some_blocks = some.0;
     }
 
--- records that rise and are at least `least`
-abbrev RiseFrom : {T : Type 0} → Kind T → ℕ → List T → Type 0
-RiseFrom kind least [] = Unit {0}
-RiseFrom kind least (x ∷ xs) = (least ≤ kind.seq x) × RiseAfter kind x xs
+-- records that rise and are above this number
+abbrev RiseAbove : {T : Type 0} → Kind T → ℕ → List T → Type 0
+RiseAbove kind number [] = Unit {0}
+RiseAbove kind number (x ∷ xs) = (number < kind.seq x) × RiseAfter kind x xs
 
-rise_behind : {T : Type 0} (kind : Kind T) (least : ℕ) (x : T) (xs ys : List T) → least ≤ kind.seq x + 1 → RiseAfter kind x (xs ++ ys) → RiseFrom kind least ys
-rise_behind kind least x [] [] near rise = tt
-rise_behind kind least x [] (y ∷ ys) near rise = (omega (arith, near, rise.0), rise.1)
-rise_behind kind least x (z ∷ xs) ys near rise = rise_behind kind least z xs ys (omega (arith, near, rise.0)) rise.1
+rise_behind : {T : Type 0} (kind : Kind T) (number : ℕ) (x : T) (xs ys : List T) → number ≤ kind.seq x → RiseAfter kind x (xs ++ ys) → RiseAbove kind number ys
+rise_behind kind number x [] [] near rise = tt
+rise_behind kind number x [] (y ∷ ys) near rise = (omega (arith, near, rise.0), rise.1)
+rise_behind kind number x (z ∷ xs) ys near rise = rise_behind kind number z xs ys (omega (arith, near, rise.0)) rise.1
 
-index_is : {T : Type 0} (kind : Kind T) → IsLawful kind → (least at : ℕ) (blocks : List (List T)) → AreFilled (block_of kind) blocks → AllByRecursion (IsRecord kind) (items_of blocks)
-    → RiseFrom kind least (items_of blocks) → at + length blocks * 2 ^ 22 < 2 ^ 62 → IsIndexFrom least at (index_from kind at blocks) (at + end_of kind blocks)
-index_is kind lawful least at [] filled fit rise room = omega arith
-index_is kind lawful least at ([] ∷ blocks) filled fit rise room = absurd (filled.0.some refl)
-index_is {T} kind lawful least at ((x ∷ b) ∷ blocks) filled fit rise room =
-    let fits = most_bytes kind lawful (x ∷ b) (each-left (IsRecord kind) (x ∷ b) (items_of blocks) fit) filled.0 in
+index_is : {T : Type 0} (kind : Kind T) → IsLawful kind → (form : Form) → IsFramed kind form → (previous at : ℕ) (blocks : List (List T)) → AreFilled (block_of kind) blocks
+    → AllByRecursion (IsRecord kind) (items_of blocks) → RiseAbove kind previous (items_of blocks) → at + length blocks * 2 ^ 22 < 2 ^ 62
+    → IsIndexFrom number_keys form previous at (index_from kind at blocks) (at + end_of kind blocks)
+index_is kind lawful form framed previous at [] filled fit rise room = omega arith
+index_is kind lawful form framed previous at ([] ∷ blocks) filled fit rise room = absurd (filled.0.some refl)
+index_is {T} kind lawful form framed previous at ((x ∷ b) ∷ blocks) filled fit rise room =
+    let here = each-left (IsRecord kind) (x ∷ b) (items_of blocks) fit in
+    let fits = most_bytes kind lawful (x ∷ b) here filled.0 in
     let later = at + frame_length kind (x ∷ b) in
-    let rest : IsIndexFrom (kind.seq x + 1) later (index_from kind later blocks) (later + end_of kind blocks) =
-    index_is kind lawful (kind.seq x + 1) later blocks filled.2 (each-right (IsRecord kind) (x ∷ b) (items_of blocks) fit)
-    (rise_behind kind (kind.seq x + 1) x b (items_of blocks) (omega arith) rise.1) (omega (arith, fits, room)) in
+    let rest : IsIndexFrom number_keys form (kind.seq x) later (index_from kind later blocks) (later + end_of kind blocks) =
+    index_is kind lawful form framed (kind.seq x) later blocks filled.2 (each-right (IsRecord kind) (x ∷ b) (items_of blocks) fit)
+    (rise_behind kind (kind.seq x) x b (items_of blocks) (omega arith) rise.1) (omega (arith, fits, room)) in
     let ends : later + end_of kind blocks ≡ at + end_of kind ((x ∷ b) ∷ blocks) = omega (arith, sum_by-cons (frame_length kind) (x ∷ b) blocks) in (
-      rise.0,
-      fit.0.small,
-      refl,
-      omega (arith, room),
-      omega (arith, fits),
-      subst (λ end. IsIndexFrom (kind.seq x + 1) later (index_from kind later blocks) end) ends rest,
+      ((fit.0.small, rise.0), refl, omega (arith, room), framed.frames (x ∷ b) here filled.0),
+      subst (λ end. IsIndexFrom number_keys form (kind.seq x) later (index_from kind later blocks) end) ends rest,
     )
 
-rise_from_one : {T : Type 0} (kind : Kind T) (xs : List T) → AllByRecursion (IsRecord kind) xs → AreRising kind xs → RiseFrom kind 1 xs
+rise_from_one : {T : Type 0} (kind : Kind T) (xs : List T) → AllByRecursion (IsRecord kind) xs → AreRising kind xs → RiseAbove kind 0 xs
 rise_from_one kind [] fit rise = tt
-rise_from_one kind (x ∷ xs) fit rise = (fit.0.some, rise)
+rise_from_one kind (x ∷ xs) fit rise = (omega (arith, fit.0.some), rise)
 
-pub index_from_is_index : {T : Type 0} (kind : Kind T) → IsLawful kind → (blocks : List (List T)) → AreBlocks kind blocks → IsIndexFrom 1 0 (index_from kind 0 blocks) (end_of kind blocks)
-index_from_is_index kind lawful blocks are =
-    subst (λ end. IsIndexFrom 1 0 (index_from kind 0 blocks) end) (omega arith)
-    (index_is kind lawful 1 0 blocks are.filled are.fit (rise_from_one kind (items_of blocks) are.fit are.rise) (omega (arith, are.few)))
+index_from_is_index : {T : Type 0} (kind : Kind T) → IsLawful kind → (form : Form) → IsFramed kind form → (blocks : List (List T)) → AreBlocks kind blocks
+    → IsIndexFrom number_keys form 0 0 (index_from kind 0 blocks) (end_of kind blocks)
+index_from_is_index kind lawful form framed blocks are =
+    subst (λ end. IsIndexFrom number_keys form 0 0 (index_from kind 0 blocks) end) (omega arith)
+    (index_is kind lawful form framed 0 0 blocks are.filled are.fit (rise_from_one kind (items_of blocks) are.fit are.rise) (omega (arith, are.few)))
+
+-- the bytes of a file of records are those of a file of blocks
+pub indexed_of : {T : Type 0} (kind : Kind T) → IsLawful kind → (form : Form) → IsFramed kind form → (bytes : List ℕ) (blocks : List (List T)) → AreBlocks kind blocks
+    → bytes ≡ numbered_frames (bodies_of kind blocks) → IsIndexed number_keys form bytes (footer_of kind blocks) (index_from kind 0 blocks)
+indexed_of kind lawful form framed bytes blocks are is = record {
+  blocks = map (block_of kind) blocks;
+  filter = [];
+  bytes_are = is;
+  is_footer = subst (λ b. IsFooter b (footer_of kind blocks)) (sym framed.unfiltered) (footer_of_is_footer kind lawful blocks are);
+  is_index = index_from_is_index kind lawful form framed blocks are;
+  few = omega (arith, are.few, length-index_bytes (index_from kind 0 blocks), length-index_from kind 0 blocks);
+  frames = length-map blocks (block_of kind);
+  handles = length-index_from kind 0 blocks;
+  filters = ap others (sym framed.unfiltered);
+  at = sym (length-blocks kind blocks);
+  ends = let long = file_ends kind blocks in omega (arith, ap length is, long);
+}
 
 -- ---- footer and index agree
 
@@ -132,14 +147,14 @@ rising_later kind x [] (y ∷ ys) rise = rise.1
 rising_later kind x (z ∷ xs) ys rise = rising_later kind z xs ys rise.1
 
 -- no block begins behind the last number
-ends_by : {T : Type 0} (kind : Kind T) (least at : ℕ) (blocks : List (List T)) → AreFilled (block_of kind) blocks → AreRising kind (items_of blocks) → blocks ≢ []
-    → least_after least (index_from kind at blocks) ≤ last_number kind (items_of blocks) + 1
-ends_by kind least at [] filled rise some = absurd (some refl)
-ends_by kind least at ([] ∷ blocks) filled rise some = absurd (filled.0.some refl)
-ends_by kind least at ((x ∷ b) ∷ []) filled rise some =
+ends_by : {T : Type 0} (kind : Kind T) (previous at : ℕ) (blocks : List (List T)) → AreFilled (block_of kind) blocks → AreRising kind (items_of blocks) → blocks ≢ []
+    → first_after previous (index_from kind at blocks) ≤ last_number kind (items_of blocks)
+ends_by kind previous at [] filled rise some = absurd (some refl)
+ends_by kind previous at ([] ∷ blocks) filled rise some = absurd (filled.0.some refl)
+ends_by kind previous at ((x ∷ b) ∷ []) filled rise some =
     omega (arith, last_is_above kind x b (rise_of_block kind x b rise), last_of_block kind (kind.seq x) b)
-ends_by kind least at ((x ∷ b) ∷ (c ∷ blocks)) filled rise some =
-    let rest = ends_by kind (kind.seq x + 1) (at + frame_length kind (x ∷ b)) (c ∷ blocks) filled.2 (rising_later kind x b (items_of (c ∷ blocks)) rise) (λ e. cc) in
+ends_by kind previous at ((x ∷ b) ∷ (c ∷ blocks)) filled rise some =
+    let rest = ends_by kind (kind.seq x) (at + frame_length kind (x ∷ b)) (c ∷ blocks) filled.2 (rising_later kind x b (items_of (c ∷ blocks)) rise) (λ e. cc) in
     omega (arith, rest, last_on kind (kind.seq x) b (items_of (c ∷ blocks)) (items_some kind c blocks filled.2))
 
 pub first_agrees : {T : Type 0} (kind : Kind T) (at : ℕ) (blocks : List (List T)) → AreFilled (block_of kind) blocks → first_of (index_from kind at blocks) ≡ first_number kind (items_of blocks)
@@ -147,63 +162,6 @@ first_agrees kind at [] filled = refl
 first_agrees kind at ([] ∷ blocks) filled = absurd (filled.0.some refl)
 first_agrees kind at ((x ∷ b) ∷ blocks) filled = refl
 
--- the footer and the index of blocks are kept of a file
-pub kept_of : {T : Type 0} (kind : Kind T) → IsLawful kind → (blocks : List (List T)) → AreBlocks kind blocks → IsKept (footer_of kind blocks) (index_from kind 0 blocks)
-kept_of kind lawful blocks are = record {
-  is_footer = footer_of_is_footer kind lawful blocks are;
-  right = index_from_is_index kind lawful blocks are;
-  count = length-index_from kind 0 blocks;
-  first = first_agrees kind 0 blocks are.filled;
-  last = ends_by kind 1 0 blocks are.filled are.rise are.some;
-}
-
--- the number of the index frame, its offset and its body
-pub reads_index : {T : Type 0} (kind : Kind T) → IsLawful kind → (id : FileId) (bytes : List ℕ) (blocks : List (List T)) → AreBlocks kind blocks → bytes ≡ numbered_frames (bodies_of kind blocks)
-    → frame_body id bytes (end_of kind blocks) (length blocks) ≡ Ok (index_bytes (index_from kind 0 blocks))
-reads_index kind lawful id bytes blocks are is =
-    let before = map (block_of kind) blocks in
-    let index = index_bytes (index_from kind 0 blocks) in
-    let footer = footer_bytes (footer_of kind blocks) in
-    let many : length before ≡ length blocks = length-map blocks (block_of kind) in
-    let small : length index < 2 ^ 32 = omega (arith, are.few, length-index_bytes (index_from kind 0 blocks), length-index_from kind 0 blocks) in
-    let whole = written_frame_is_read id before (footer ∷ []) index (omega (arith, are.few, many)) small in
-    ap (λ (b : List ℕ). frame_body id b (end_of kind blocks) (length blocks)) is
-    ∙ ap (λ (at : ℕ). frame_body id (numbered_frames (bodies_of kind blocks)) at (length blocks)) (sym (length-blocks kind blocks))
-    ∙ ap (λ (n : ℕ). frame_body id (numbered_frames (bodies_of kind blocks)) (length (numbered_frames before)) n) (sym many)
-    ∙ whole
-
--- the footer
-pub reads_footer : {T : Type 0} (kind : Kind T) → IsLawful kind → (id : FileId) (bytes : List ℕ) (blocks : List (List T)) → AreBlocks kind blocks → bytes ≡ numbered_frames (bodies_of kind blocks)
-    → footer_body id bytes 65 1 ≡ Ok (footer_bytes (footer_of kind blocks))
-reads_footer kind lawful id bytes blocks are is =
-    let index = index_bytes (index_from kind 0 blocks) in
-    let before = map (block_of kind) blocks ++ index ∷ [] in
-    let footer = footer_bytes (footer_of kind blocks) in
-    let is_footer = footer_of_is_footer kind lawful blocks are in
-    let size : 65 ≡ length footer + 20 = omega (arith, length-footer_bytes (footer_of kind blocks)) in
-    let many : length before ≡ said_blocks footer + 1 =
-    omega (arith, length-append (map (block_of kind) blocks) (index ∷ []), length-map blocks (block_of kind), said_blocks-footer (footer_of kind blocks) is_footer.blocks) in
-    let bodies : bodies_of kind blocks ≡ before ++ footer ∷ [] = sym (append_assoc (map (block_of kind) blocks) (index ∷ []) (footer ∷ [])) in
-    ap (λ (b : List ℕ). footer_body id b 65 1) (is ∙ ap numbered_frames bodies)
-    ∙ ap (λ (n : ℕ). footer_body id (numbered_frames (before ++ footer ∷ [])) n 1) size
-    ∙ written_footer_is_read id before footer 1 (omega (arith, are.few, length-append (map (block_of kind) blocks) (index ∷ []), length-map blocks (block_of kind)))
-    (omega (arith, length-footer_bytes (footer_of kind blocks))) many
-
--- the length of a file
-pub file_ends : {T : Type 0} (kind : Kind T) (blocks : List (List T)) → length (numbered_frames (bodies_of kind blocks)) ≡ end_of kind blocks + (length (index_bytes (index_from kind 0 blocks)) + 20) + 65
-file_ends kind blocks =
-    let index = index_bytes (index_from kind 0 blocks) in
-    let footer = footer_bytes (footer_of kind blocks) in
-    let before = map (block_of kind) blocks in
-    let bodies : bodies_of kind blocks ≡ (before ++ index ∷ []) ++ footer ∷ [] = sym (append_assoc before (index ∷ []) (footer ∷ [])) in
-    ap length (ap numbered_frames bodies ∙ numbered-more (before ++ index ∷ []) footer)
-    ∙ length-append (numbered_frames (before ++ index ∷ [])) (frame (length (before ++ index ∷ [])) footer)
-    ∙ omega (
-      arith,
-      length-frame (length (before ++ index ∷ [])) footer,
-      length-footer_bytes (footer_of kind blocks),
-      ap length (numbered-more before index),
-      length-append (numbered_frames before) (frame (length before) index),
-      length-frame (length before) index,
-      length-blocks kind blocks,
-    )
+-- the footer and the index of blocks agree
+pub agree_of : {T : Type 0} (kind : Kind T) (blocks : List (List T)) → AreBlocks kind blocks → Agrees (footer_of kind blocks) (index_from kind 0 blocks)
+agree_of kind blocks are = record { first = first_agrees kind 0 blocks are.filled; last = ends_by kind 0 0 blocks are.filled are.rise are.some }

@@ -6,7 +6,6 @@ use Rattle.std.proofs.lemmas.List.Elements.{filter-append}
 use Rattle.std.proofs.lemmas.List.Sums.{sum_by-cons}
 use Rattle.std.specs.Prelude.{sum_by, filter, map, nat_lt, IsSome, IfErr, IfOk}
 use Rattle.std.specs.List.{AllByRecursion}
-use Rattle.std.specs.List.Sorted.{IsPartitionPoint}
 use Rattle.mg_frame.specs.Frames.{numbered_frames}
 use Rattle.mg_types.specs.declared.faults.Fault.{Fault}
 use Rattle.mg_types.specs.declared.faults.Fault.TheVariants.{Malformed, NoMemory}
@@ -17,17 +16,21 @@ use Rattle.mg_sealed.specs.Reading.{frame_body}
 use Rattle.mg_sealed.specs.Blocks.{block_body, judged_block, IsUnfitAt}
 use Rattle.mg_sealed.proofs.AnswerLaws.{answered, refused, some_any, some_both, some_then}
 use Rattle.mg_sealed.proofs.WrittenLaws.{written_frame_is_read}
-use Rattle.mg_records.specs.File.{block_of, first_number, last_number, last_number_after, frame_length, index_from, end_of, RiseAfter, AreRising, AreBlocks, footer_of, bodies_of, index_bytes, footer_bytes, record_of}
+use Rattle.mg_indexed.specs.Footer.{footer_bytes}
+use Rattle.mg_indexed.specs.Index.{index_bytes, BeginUpTo}
+use Rattle.mg_indexed.specs.NumberKeys.{number_keys}
+use Rattle.mg_records.specs.File.{block_of, first_number, last_number, last_number_after, frame_length, index_from, end_of, RiseAfter, AreRising, AreBlocks, footer_of, bodies_of, record_of}
 use Rattle.mg_records.specs.Record.{Kind, IsLawful, IsRecord}
 use Rattle.mg_records.specs.Lookup.{Follows, IsBlock, IsBlockFault, IsBlockOf, IsBlockRefused, IsBlockUnfit, IsBodyRefused, IsSpan, IsUnfitFor, IsWithin, StartsAt, AreTotals}
 use Rattle.mg_records.specs.declared.block.Span.{Span}
 use Rattle.mg_records.proofs.WithinLaws.{last_on, within_before, within_last}
 use Rattle.mg_records.proofs.RecordLaws.{some_bytes_of}
 use Rattle.mg_records.specs.Writing.{Filed, Represents}
-use Rattle.mg_records.specs.declared.footer.Footer.{Footer}
-use Rattle.mg_records.specs.declared.index.BlockHandle.{BlockHandle}
+use Rattle.mg_indexed.specs.declared.footer.Footer.{Footer}
+use Rattle.mg_indexed.specs.declared.handle.BlockHandle.{BlockHandle}
 use Rattle.mg_records.proofs.BlockLaws.{each-left, each-right, length-push}
 use Rattle.mg_records.proofs.FileLaws.{length-index_from, length-blocks}
+use Rattle.mg_records.proofs.HandleLaws.{not_above}
 use Rattle.mg_records.proofs.LoadingLaws.{most_bytes}
 use Rattle.mg_records.proofs.ScanLaws.{block_not_refused, block_not_unfit, filter-pass, filter_all, record_of-later}
 
@@ -49,7 +52,7 @@ parts (b ∷ blocks) (suc number) within =
     record { before = b ∷ rest.before; block = rest.block; later = rest.later; all = ap (λ bs. b ∷ bs) rest.all; many = ap suc rest.many }
 
 -- the index says of a block its first number, where the frames before it end, and its length
-pub handle_is : {T : Type 0} (kind : Kind T) (at : ℕ) (before : List (List T)) (block : List T) (later : List (List T)) (d : BlockHandle)
+pub handle_is : {T : Type 0} (kind : Kind T) (at : ℕ) (before : List (List T)) (block : List T) (later : List (List T)) (d : BlockHandle ℕ)
     → slice_index_or (index_from kind at (before ++ block ∷ later)) (length before) d
     ≡ record { first = first_number kind block; at = at + end_of kind before; len = frame_length kind block }
 handle_is kind at [] block later d = ap (λ n. record { first = first_number kind block; at = n; len = frame_length kind block }) (omega arith)
@@ -79,12 +82,14 @@ pub reads_block : {T : Type 0} (kind : Kind T) → IsLawful kind → (id : FileI
 reads_block {T} kind lawful id bytes before block later are is =
     let bodies : List (List T) → List (List ℕ) = map (block_of kind) in
     let blocks = before ++ block ∷ later in
-    let behind = index_bytes (index_from kind 0 blocks) ∷ footer_bytes (footer_of kind blocks) ∷ [] in
+    let index = index_bytes number_keys (index_from kind 0 blocks) in
+    let footer = footer_bytes (footer_of kind blocks) in
+    let behind = index ∷ footer ∷ [] in
     let many : length (bodies before) ≡ length before = length-map before (block_of kind) in
     let few : length before < 2 ^ 32 = omega (arith, are.few, length-append before (block ∷ later)) in
     let small = most_bytes kind lawful block (fits-parts kind before block later are.fit) (filled-parts kind before block later are.filled).0 in
     let split : bodies_of kind blocks ≡ bodies before ++ (block_of kind block ∷ (bodies later ++ behind)) =
-    ap (λ xs. xs ++ behind) (map-append (block_of kind) before (block ∷ later)) ∙ append_assoc (bodies before) (block_of kind block ∷ bodies later) behind in
+    append_assoc (bodies blocks) (index ∷ []) (footer ∷ []) ∙ ap (λ xs. xs ++ behind) (map-append (block_of kind) before (block ∷ later)) ∙ append_assoc (bodies before) (block_of kind block ∷ bodies later) behind in
     let whole = written_frame_is_read id (bodies before) (bodies later ++ behind) (block_of kind block) (omega (arith, few, many)) (omega (arith, small)) in
     ap (λ (b : List ℕ). frame_body id b (end_of kind before) (length before)) (is ∙ ap numbered_frames split)
     ∙ ap (λ (at : ℕ). frame_body id (numbered_frames (bodies before ++ (block_of kind block ∷ (bodies later ++ behind)))) at (length before)) (sym (length-blocks kind before))
@@ -100,14 +105,14 @@ judged_long id at len body is = ap (λ b. cond b (Ok body) (Err (Malformed id at
 
 -- the body that is read of the block of a number
 reads_body : {T : Type 0} (kind : Kind T) → IsLawful kind → (id : FileId) (bytes : List ℕ) (blocks : List (List T)) (number : ℕ) (p : Parts blocks number) → AreBlocks kind blocks
-    → bytes ≡ numbered_frames (bodies_of kind blocks) → (handle : BlockHandle) → handle ≡ record { first = first_number kind p.block; at = end_of kind p.before; len = frame_length kind p.block }
+    → bytes ≡ numbered_frames (bodies_of kind blocks) → (handle : BlockHandle ℕ) → handle ≡ record { first = first_number kind p.block; at = end_of kind p.before; len = frame_length kind p.block }
     → block_body id bytes handle.at handle.len number ≡ Ok (block_of kind p.block)
 unfolding block_body
 reads_body {T} kind lawful id bytes blocks number p are is handle handle_is =
     let reads : frame_body id bytes (end_of kind p.before) number ≡ Ok (block_of kind p.block) =
     ap (λ (n : ℕ). frame_body id bytes (end_of kind p.before) n) (sym p.many)
     ∙ reads_block kind lawful id bytes p.before p.block p.later (subst (λ bs. AreBlocks kind bs) p.all are) (is ∙ ap (λ bs. numbered_frames (bodies_of kind bs)) p.all) in
-    ap (λ (e : BlockHandle). judged_block id e.at e.len (frame_body id bytes e.at number)) handle_is
+    ap (λ (e : BlockHandle ℕ). judged_block id e.at e.len (frame_body id bytes e.at number)) handle_is
     ∙ ap (judged_block id (end_of kind p.before) (frame_length kind p.block)) reads
     ∙ judged_long id (end_of kind p.before) (frame_length kind p.block) (block_of kind p.block) refl
 
@@ -120,7 +125,7 @@ block_or_outside kind blocks number p (Ok body) answer = block_here kind blocks 
 block_or_outside kind blocks number p (Err fault) answer = refused (block_of kind p.block) (Ok (block_of kind p.block)) fault refl answer
 
 -- what the index has of a block of a file
-handle_at : {T S : Type 0} (kind : Kind T) (told : S → Option (List ℕ)) (filed : Filed S) (records : List T) (holds : Represents kind told filed records) (number : ℕ) (p : Parts holds.blocks number) (d : BlockHandle)
+handle_at : {T S : Type 0} (kind : Kind T) (told : S → Option (List ℕ)) (filed : Filed S) (records : List T) (holds : Represents kind told filed records) (number : ℕ) (p : Parts holds.blocks number) (d : BlockHandle ℕ)
     → slice_index_or filed.index number d ≡ record { first = first_number kind p.block; at = end_of kind p.before; len = frame_length kind p.block }
 handle_at kind told filed records holds number p d =
     ap (λ es. slice_index_or es number d) holds.index
@@ -129,7 +134,7 @@ handle_at kind told filed records holds number p d =
     ∙ handle_is kind 0 p.before p.block p.later d
     ∙ ap (λ n. record { first = first_number kind p.block; at = n; len = frame_length kind p.block }) (omega arith)
 
-pub no_handle : BlockHandle
+pub no_handle : BlockHandle ℕ
 no_handle = record { first = 0; at = 0; len = 0 }
 
 blocks_many : {T S : Type 0} (kind : Kind T) (told : S → Option (List ℕ)) (filed : Filed S) (records : List T) (holds : Represents kind told filed records) → length filed.index ≡ length holds.blocks
@@ -143,8 +148,8 @@ pub block_read : {T S : Type 0} (kind : Kind T) → IsLawful kind → (told : S 
 block_read {T} {S} kind lawful told filed records holds number span result some is known =
     let p = parts holds.blocks number (omega (arith, is.within, blocks_many kind told filed records holds)) in
     let handle = handle_at kind told filed records holds number p no_handle in
-    let at : span.at ≡ end_of kind p.before = is.at no_handle ∙ ap (λ (e : BlockHandle). e.at) handle in
-    let len : span.len ≡ frame_length kind p.block = is.len no_handle ∙ ap (λ (e : BlockHandle). e.len) handle in
+    let at : span.at ≡ end_of kind p.before = is.at no_handle ∙ ap (λ (e : BlockHandle ℕ). e.at) handle in
+    let len : span.len ≡ frame_length kind p.block = is.len no_handle ∙ ap (λ (e : BlockHandle ℕ). e.len) handle in
     let known' = subst (λ (n : ℕ). IfSome (told filed.file.file) (λ bytes. filed.file.len ≡ length bytes → Answers (block_body filed.file.id bytes (end_of kind p.before) n number) result)) len
     (subst (λ (n : ℕ). IfSome (told filed.file.file) (λ bytes. filed.file.len ≡ length bytes → Answers (block_body filed.file.id bytes n span.len number) result)) at known) in
     block_or_outside kind holds.blocks number p result
@@ -186,7 +191,7 @@ pub right_block : {T S : Type 0} (kind : Kind T) (told : S → Option (List ℕ)
 right_block {T} {S} kind told filed records holds number span body is b =
     let p : Parts holds.blocks number = record { before = b.before; block = b.block; later = b.later; all = b.all; many = b.many } in
     let handle = handle_at kind told filed records holds number p no_handle in
-    let first : span.first ≡ first_number kind b.block = is.first no_handle ∙ ap (λ (e : BlockHandle). e.first) handle in
+    let first : span.first ≡ first_number kind b.block = is.first no_handle ∙ ap (λ (e : BlockHandle ℕ). e.first) handle in
     let filled = filled-parts kind b.before b.block b.later (subst (λ bs. AreFilled (block_of kind) bs) b.all holds.are.filled) in
     let rise = rise_behind kind (items_of b.before) (b.block ++ items_of b.later) (subst (λ xs. AreRising kind xs) (ap items_of b.all ∙ items_of-parts b.before b.block b.later) holds.are.rise) in
     let many : length filed.index ≡ length b.before + (1 + length b.later) = omega (arith, blocks_many kind told filed records holds, ap length b.all, length-append b.before (b.block ∷ b.later)) in
@@ -194,13 +199,13 @@ right_block {T} {S} kind told filed records holds number span body is b =
     (let all : items_of holds.blocks ≡ items_of b.before ++ b.block = ap items_of b.all ∙ items_of-parts b.before b.block b.later ∙ ap (λ bs. items_of b.before ++ (b.block ++ items_of bs)) none
     ∙ ap (λ xs. items_of b.before ++ xs) (append-nil b.block) in
     let last : last_number kind (items_of holds.blocks) ≡ last_number kind b.block = ap (last_number kind) all ∙ last_on kind 0 (items_of b.before) b.block filled.0.some in
-    omega (arith, is.outer (omega (arith, many, b.many, ap length none)), ap (λ (f : Footer). f.last) holds.footer, last)) in
+    omega (arith, is.outer (omega (arith, many, b.many, ap length none)), ap (λ (f : Footer). f.high) holds.footer, last)) in
     let inner : (next : List T) (more : List (List T)) → b.later ≡ next ∷ more → (next ≢ []) × (span.end ≡ first_number kind next) = λ next more later.
     (let all : holds.blocks ≡ (b.before ++ b.block ∷ []) ++ next ∷ more = b.all ∙ ap (λ bs. b.before ++ b.block ∷ bs) later ∙ sym (append_assoc b.before (b.block ∷ []) (next ∷ more)) in
     let q : Parts holds.blocks (number + 1) = record { before = b.before ++ b.block ∷ []; block = next; later = more; all = all; many = omega (arith, b.many, length-append b.before (b.block ∷ [])) } in
     let within : number + 1 < length filed.index = omega (arith, many, b.many, ap length later) in (
       filled_next kind next more (subst (λ bs. AreFilled (block_of kind) bs) later filled.1),
-      is.inner no_handle within ∙ ap (λ (e : BlockHandle). e.first) (handle_at kind told filed records holds (number + 1) q no_handle),
+      is.inner no_handle within ∙ ap (λ (e : BlockHandle ℕ). e.first) (handle_at kind told filed records holds (number + 1) q no_handle),
     )) in
     let within = within_block kind b.block b.later span.end filled.0.some rise outer inner in (
       record {
@@ -322,10 +327,10 @@ blocks_above kind number ((x ∷ b) ∷ blocks) filled rise above =
 
 -- ---- where the records above a number begin, and where one of a number stands
 
-first_of : {T : Type 0} (kind : Kind T) (blocks : List (List T)) (before : List (List T)) (block : List T) (later : List (List T)) (d : BlockHandle) → blocks ≡ before ++ block ∷ later
+first_of : {T : Type 0} (kind : Kind T) (blocks : List (List T)) (before : List (List T)) (block : List T) (later : List (List T)) (d : BlockHandle ℕ) → blocks ≡ before ++ block ∷ later
     → (slice_index_or (index_from kind 0 blocks) (length before) d).first ≡ first_number kind block
 first_of kind blocks before block later d is =
-    ap (λ bs. (slice_index_or (index_from kind 0 bs) (length before) d).first) is ∙ ap (λ (e : BlockHandle). e.first) (handle_is kind 0 before block later d)
+    ap (λ bs. (slice_index_or (index_from kind 0 bs) (length before) d).first) is ∙ ap (λ (e : BlockHandle ℕ). e.first) (handle_is kind 0 before block later d)
 
 none_passes : {T : Type 0} (kind : Kind T) (after : ℕ) (xs ys : List T) → AllByRecursion (λ x. kind.seq x < after + 1) xs
     → filter (λ it. nat_lt after (kind.seq it)) (xs ++ ys) ≡ filter (λ it. nat_lt after (kind.seq it)) ys
@@ -345,15 +350,15 @@ drop_parts : {T : Type 0} (blocks : List (List T)) (number : ℕ) (p : Parts blo
 drop_parts blocks number p = ap (drop number) p.all ∙ drop_at p.before (p.block ∷ p.later) number p.many
 
 -- the records above a number begin in the last block that begins at most at it
-pub scan_begins : {T : Type 0} (kind : Kind T) (blocks : List (List T)) → AreBlocks kind blocks → (after start behind : ℕ) (d : BlockHandle) → start ≡ behind - 1 → behind ≤ length (index_from kind 0 blocks)
-    → IsPartitionPoint (λ (e : BlockHandle). e.first ≤ after) (λ (e : BlockHandle). after < e.first) (index_from kind 0 blocks) behind
+pub scan_begins : {T : Type 0} (kind : Kind T) (blocks : List (List T)) → AreBlocks kind blocks → (after start behind : ℕ) (d : BlockHandle ℕ) → start ≡ behind - 1 → behind ≤ length (index_from kind 0 blocks)
+    → BeginUpTo number_keys (index_from kind 0 blocks) after behind
     → filter (λ it. nat_lt after (kind.seq it)) (items_of (drop start blocks)) ≡ filter (λ it. nat_lt after (kind.seq it)) (items_of blocks)
 scan_begins {T} kind blocks are after start zero d is bound point =
     let none : start ≡ 0 = omega (arith, is) in ap (λ n. filter (λ it. nat_lt after (kind.seq it)) (items_of (drop n blocks))) none
 scan_begins {T} kind blocks are after start (suc k) d is bound point =
     let p = parts blocks start (omega (arith, is, bound, length-index_from kind 0 blocks)) in
     let under : first_number kind p.block ≤ after =
-    omega (arith, point.0 (length p.before) d (omega arith) (omega (arith, p.many, is)), first_of kind blocks p.before p.block p.later d p.all) in
+    omega (arith, not_above _ _ (point.0 (length p.before) d (omega arith) (omega (arith, p.many, is))), first_of kind blocks p.before p.block p.later d p.all) in
     ap (λ (bs : List (List T)). filter (λ it. nat_lt after (kind.seq it)) (items_of bs)) (drop_parts blocks start p)
     ∙ begun kind after p.before p.block p.later (filled-parts kind p.before p.block p.later (subst (λ bs. AreFilled (block_of kind) bs) p.all are.filled)).0
     (subst (λ bs. AreRising kind (items_of bs)) p.all are.rise) under
@@ -366,11 +371,11 @@ scan_starts kind told filed records holds after start within (inl none) =
     ap (λ n. filter (λ it. nat_lt after (kind.seq it)) (items_of (drop n holds.blocks))) none.0 ∙ ap (filter (λ it. nat_lt after (kind.seq it))) holds.all
 scan_starts kind told filed records holds after start within (inr some) =
     scan_begins kind holds.blocks holds.are after start (start + 1) no_handle (omega arith) (omega (arith, within, ap length holds.index))
-    (subst (λ (es : List BlockHandle). IsPartitionPoint (λ (e : BlockHandle). e.first ≤ after) (λ (e : BlockHandle). after < e.first) es (start + 1)) holds.index some.1)
+    (subst (λ (es : List (BlockHandle ℕ)). BeginUpTo number_keys es after (start + 1)) holds.index some.1)
     ∙ ap (filter (λ it. nat_lt after (kind.seq it))) holds.all
 
-later_first : {T : Type 0} (kind : Kind T) (blocks : List (List T)) (number : ℕ) (behind : ℕ) (d : BlockHandle) (before : List (List T)) (later : List (List T))
-    → IsPartitionPoint (λ (e : BlockHandle). e.first ≤ number) (λ (e : BlockHandle). number < e.first) (index_from kind 0 blocks) behind
+later_first : {T : Type 0} (kind : Kind T) (blocks : List (List T)) (number : ℕ) (behind : ℕ) (d : BlockHandle ℕ) (before : List (List T)) (later : List (List T))
+    → BeginUpTo number_keys (index_from kind 0 blocks) number behind
     → blocks ≡ before ++ later → length before ≡ behind → (block : List T) (more : List (List T)) → later ≡ block ∷ more → number < first_number kind block
 later_first kind blocks number behind d before later point all many block more is =
     let all' : blocks ≡ before ++ block ∷ more = all ∙ ap (λ bs. before ++ bs) is in
@@ -390,13 +395,13 @@ found_here kind number before (x ∷ b) later fits filled rise under above =
     ∙ none_behind kind number (x ∷ b) (items_of later) (blocks_above kind number later filled behind above)
 
 -- a record of a number stands in the last block that begins at most at it
-pub found_in : {T : Type 0} (kind : Kind T) (blocks : List (List T)) → AreBlocks kind blocks → (number behind : ℕ) (d : BlockHandle) (before : List (List T)) (block : List T) (later : List (List T))
-    → IsPartitionPoint (λ (e : BlockHandle). e.first ≤ number) (λ (e : BlockHandle). number < e.first) (index_from kind 0 blocks) behind
+pub found_in : {T : Type 0} (kind : Kind T) (blocks : List (List T)) → AreBlocks kind blocks → (number behind : ℕ) (d : BlockHandle ℕ) (before : List (List T)) (block : List T) (later : List (List T))
+    → BeginUpTo number_keys (index_from kind 0 blocks) number behind
     → blocks ≡ before ++ block ∷ later → length before + 1 ≡ behind → record_of kind number (items_of blocks) ≡ record_of kind number block
 found_in {T} kind blocks are number behind d before block later point all many =
     let filled = filled-parts kind before block later (subst (λ bs. AreFilled (block_of kind) bs) all are.filled) in
     let under : first_number kind block ≤ number =
-    omega (arith, point.0 (length before) d (omega arith) (omega (arith, many)), first_of kind blocks before block later d all) in
+    omega (arith, not_above _ _ (point.0 (length before) d (omega arith) (omega (arith, many))), first_of kind blocks before block later d all) in
     let all' : blocks ≡ (before ++ block ∷ []) ++ later = all ∙ sym (append_assoc before (block ∷ []) later) in
     let many' : length (before ++ block ∷ []) ≡ behind = omega (arith, many, length-append before (block ∷ [])) in
     ap (λ (bs : List (List T)). record_of kind number (items_of bs)) all
@@ -431,7 +436,7 @@ unfit_for_at kind number span body fault (inl unfilled) = inr unfilled.5
 unfit_for_at kind number span body fault (inr unfit) = unfit_at kind span body fault unfit.0
 
 -- the index item of a block
-handle_there : (index : List BlockHandle) (k : ℕ) → k < length index → (handle : BlockHandle) × (slice_index_or index k handle ≡ handle)
+handle_there : (index : List (BlockHandle ℕ)) (k : ℕ) → k < length index → (handle : BlockHandle ℕ) × (slice_index_or index k handle ≡ handle)
 handle_there [] k within = absurd (omega (arith, within))
 handle_there (e ∷ index) zero within = (e, refl)
 handle_there (e ∷ index) (suc k) within = let more = handle_there index k (omega (arith, within)) in (more.0, more.1)
@@ -440,7 +445,7 @@ handle_there (e ∷ index) (suc k) within = let more = handle_there index k (ome
 pub span_fault : {S : Type 0} (filed : Filed S) (number : ℕ) (span : Span) (fault : Fault) → IsSpan filed number span → IsUnfitAt span.file span.at fault → IsBlockFault filed.file.id filed.index fault
 span_fault filed number span fault is unfit =
     let there = handle_there filed.index number is.within in
-    let at : span.at ≡ there.0.at = is.at there.0 ∙ ap (λ (e : BlockHandle). e.at) there.1 in
+    let at : span.at ≡ there.0.at = is.at there.0 ∙ ap (λ (e : BlockHandle ℕ). e.at) there.1 in
     (number, there.0, is.within, there.1, subst (λ (i : FileId). IsUnfitAt i there.0.at fault) is.file (subst (λ (n : ℕ). IsUnfitAt span.file n fault) at unfit))
 
 pub span_faults : {V S : Type 0} (filed : Filed S) (number : ℕ) (span : Span) (result : Result V Fault) → IsSpan filed number span → IfErr result (λ fault. IsOutside fault ⊎ IsUnfitAt filed.file.id span.at fault)
@@ -523,10 +528,10 @@ pub right_totals : {T S : Type 0} (kind : Kind T) (told : S → Option (List ℕ
     → start < length filed.index → number ≡ length filed.index → found ≡ filter (λ it. nat_lt after (kind.seq it)) records → IsBehind kind holds.blocks start number before last → AreTotals kind filed after last found
 right_totals {T} {S} kind told filed records holds after start number found before last within ends is behind =
     let many = blocks_many kind told filed records holds in (
-      last_told kind holds.blocks start number before last holds.are.filled (omega (arith, within, ends)) (omega (arith, ends, many)) behind ∙ sym (ap (λ (f : Footer). f.last) holds.footer),
+      last_told kind holds.blocks start number before last holds.are.filled (omega (arith, within, ends)) (omega (arith, ends, many)) behind ∙ sym (ap (λ (f : Footer). f.high) holds.footer),
       λ below.
           let rise : AreRising kind records = subst (λ xs. AreRising kind xs) holds.all holds.are.rise in
-          let first : filed.footer.first ≡ first_number kind records = ap (λ (f : Footer). f.first) holds.footer ∙ ap (first_number kind) holds.all in
+          let first : filed.footer.low ≡ first_number kind records = ap (λ (f : Footer). f.low) holds.footer ∙ ap (first_number kind) holds.all in
           let all : found ≡ records = is ∙ filter_all kind after records rise (omega (arith, below, first)) in
-          (ap length all ∙ sym (ap (λ (f : Footer). f.records) holds.footer ∙ ap length holds.all), ap (sum_by kind.size) all ∙ sym (ap (λ (f : Footer). f.sum) holds.footer ∙ ap (sum_by kind.size) holds.all)),
+          (ap length all ∙ sym (ap (λ (f : Footer). f.count) holds.footer ∙ ap length holds.all), ap (sum_by kind.size) all ∙ sym (ap (λ (f : Footer). f.sum) holds.footer ∙ ap (sum_by kind.size) holds.all)),
     )

@@ -1,23 +1,30 @@
 -- What a writer has, one record more at a time.
-use Rattle.std.proofs.Common.{◌≡◌, ◌≢◌, ℕ, zero, suc, ◌+◌, ◌*◌, ◌<◌, ◌≤◌, ◌⊎◌, ◌^◌, List, [], ◌∷◌, ◌++◌, length, refl, sym, ap, ◌∙◌, subst, inl, inr, arith, append_assoc, Option, IfSome}
+use Rattle.std.proofs.Common.{◌≡◌, ◌≢◌, ℕ, zero, suc, ◌+◌, ◌*◌, ◌<◌, ◌≤◌, ◌⊎◌, ◌^◌, List, [], ◌∷◌, ◌++◌, length, refl, sym, ap, ◌∙◌, subst, inl, inr, arith, append_assoc, Bool, false, Option, IfSome}
 use Rattle.std.proofs.lemmas.List.{append-nil, length-append, map-append}
 use Rattle.std.proofs.lemmas.List.Sums.{sum_by_push}
 use Rattle.std.specs.Prelude.{sum_by, map}
 use Rattle.std.specs.List.{AllByRecursion}
 use Rattle.mg_frame.specs.Frames.{numbered_frames}
 use Rattle.mg_sealed.specs.Writing.{Written, HasFrames}
-use Rattle.mg_records.specs.File.{block_of, first_number, last_number, index_from, end_of, AreRising, AreBlocks, footer_of, bodies_of, index_bytes, footer_bytes}
+use Rattle.mg_indexed.specs.Forms.{Form, IsFrameLength}
+use Rattle.mg_indexed.specs.Index.{first_after}
+use Rattle.mg_indexed.specs.NumberKeys.{number_keys}
+use Rattle.mg_indexed.specs.Writing.{file_bodies, footer_from, index_length, Closed, IsSummary}
+use Rattle.mg_indexed.specs.declared.footer.Summary.{Summary}
+use Rattle.mg_indexed.proofs.FieldLaws.{footer_is as same_footer}
+use Rattle.mg_indexed.proofs.HandleLaws.{first_after-push}
+use Rattle.mg_records.specs.File.{block_of, first_number, last_number, index_from, end_of, AreRising, AreBlocks, footer_of, bodies_of}
+use Rattle.mg_records.specs.Framed.{IsFramed}
 use Rattle.mg_sealed.specs.Filling.{AreFilled, items_of}
 use Rattle.mg_records.specs.Record.{Kind, IsLawful, IsRecord, record_bytes}
-use Rattle.mg_records.specs.Indexes.{IsIndexFrom, first_of, least_after}
-use Rattle.mg_records.specs.Reading.{IsFooter, IsKept}
-use Rattle.mg_records.proofs.HandleLaws.{first_small, index_push, least_after-push}
+use Rattle.mg_records.specs.Indexes.{first_of}
+use Rattle.mg_records.specs.Reading.{Agrees}
 use Rattle.mg_records.proofs.RecordLaws.{length-record_bytes, most_in_record}
-use Rattle.mg_records.specs.Writing.{Filing, HasRecords, IsBounded, IsClosing, Represents, IsPut, MayFollow}
-use Rattle.mg_records.specs.declared.index.BlockHandle.{BlockHandle}
-use Rattle.mg_records.specs.declared.footer.Footer.{Footer}
+use Rattle.mg_records.specs.Writing.{Filed, Filing, HasRecords, IsBounded, IsClosing, IsOpen, Represents, IsPut, MayFollow}
+use Rattle.mg_indexed.specs.declared.handle.BlockHandle.{BlockHandle}
+use Rattle.mg_indexed.specs.declared.footer.Footer.{Footer}
 use Rattle.mg_sealed.specs.declared.reading.SealedFile.{SealedFile}
-use Rattle.mg_records.proofs.BlockLaws.{each-right, each-append, block_of-push, count_in_bytes, last_number_after-push, length-push, AreRising-push}
+use Rattle.mg_records.proofs.BlockLaws.{each-right, each-append, block_of-one, block_of-push, count_in_bytes, last_number_after-push, length-push, AreRising-push}
 use Rattle.mg_sealed.proofs.FilledLaws.{alone-filled, filled-closed, filled-more, items_of-push, last_is_some, push-some}
 use Rattle.mg_records.proofs.FileLaws.{length-index_from, index_from-push, length-blocks, end_of-push}
 
@@ -93,7 +100,7 @@ frames_closed kind drafted frames block full last_block is has =
     subst (HasFrames drafted frames) bodies has
 
 -- the index of the full blocks and of the last one
-pub index_closed : {T D : Type 0} (kind : Kind T) (drafted : D → Option (List ℕ)) (frames : Written D) (index : List BlockHandle) (block : List ℕ) (block_first : ℕ) (full : List (List T)) (last_block : List T)
+pub index_closed : {T D : Type 0} (kind : Kind T) (drafted : D → Option (List ℕ)) (frames : Written D) (index : List (BlockHandle ℕ)) (block : List ℕ) (block_first : ℕ) (full : List (List T)) (last_block : List T)
     → index ≡ index_from kind 0 full → block ≡ block_of kind last_block → block_first ≡ first_number kind last_block → HasFrames drafted frames (map (block_of kind) full)
     → index ++ record { first = block_first; at = frames.len; len = length block + 20 } ∷ [] ≡ index_from kind 0 (full ++ last_block ∷ [])
 index_closed kind drafted frames index block block_first full last_block before is begins has =
@@ -173,9 +180,13 @@ has_more kind lawful drafted old new it records fits follow ready put =
       last = put.last ∙ sym (last_number_after-push kind 0 records it);
     }
 
--- the footer of a writer's file, whose index begins at this offset and has so many items
-abbrev pub footer_at : {D : Type 0} → Filing D → ℕ → ℕ → Footer
-footer_at writer at count = record { records = writer.records; sum = writer.sum; first = writer.first; last = writer.last; index = at; blocks = count }
+-- the index item of the block in writing
+abbrev pub item_of : {D : Type 0} → Filing D → BlockHandle ℕ
+item_of writer = record { first = writer.block_first; at = writer.frames.len; len = length writer.block + 20 }
+
+-- what the footer says of a writer's records
+abbrev pub summary_of : {D : Type 0} → Filing D → Summary
+summary_of writer = record { count = writer.records; sum = writer.sum; low = writer.first; high = writer.last }
 
 are_blocks : {T D : Type 0} (kind : Kind T) (drafted : D → Option (List ℕ)) (writer : Filing D) (records : List T) → (has : HasRecords kind drafted writer records)
     → 0 < writer.records → 20 * (length writer.index + 1) < 2 ^ 32 → AreBlocks kind (has.full ++ has.last_block ∷ [])
@@ -192,53 +203,47 @@ are_blocks kind drafted writer records has some few =
       rise = subst (AreRising kind) in_blocks has.rise;
     }
 
-footer_is : {T D : Type 0} (kind : Kind T) (drafted : D → Option (List ℕ)) (writer : Filing D) (at count : ℕ) (records : List T) → (has : HasRecords kind drafted writer records)
+footer_is : {T D : Type 0} (kind : Kind T) (drafted : D → Option (List ℕ)) (writer : Filing D) (at len count : ℕ) (records : List T) → (has : HasRecords kind drafted writer records)
     → at ≡ writer.frames.len + length writer.block + 20 → count ≡ length writer.index + 1
-    → footer_at writer at count ≡ footer_of kind (has.full ++ has.last_block ∷ [])
-footer_is {T} kind drafted writer at count records has offset counted =
+    → footer_from false (summary_of writer) at len count ≡ footer_of kind (has.full ++ has.last_block ∷ [])
+footer_is {T} kind drafted writer at len count records has offset counted =
     let blocks = has.full ++ has.last_block ∷ [] in
     let in_blocks : records ≡ items_of blocks = has.all ∙ sym (items_of-push has.full has.last_block) in
     let ends : at ≡ end_of kind blocks = omega (arith, offset, has.frames.len, length-blocks kind has.full, ap length has.block, end_of-push kind has.full has.last_block) in
     let many : count ≡ length blocks = omega (arith, counted, ap length has.index, length-index_from kind 0 has.full, length-append has.full (has.last_block ∷ [])) in
-    let all : length records ≡ length (items_of blocks) = ap length in_blocks in
-    let sizes : sum_by kind.size records ≡ sum_by kind.size (items_of blocks) = ap (sum_by kind.size) in_blocks in
-    let first : first_number kind records ≡ first_number kind (items_of blocks) = ap (first_number kind) in_blocks in
-    let last : last_number kind records ≡ last_number kind (items_of blocks) = ap (last_number kind) in_blocks in
-    ap (λ n. record { records = n; sum = writer.sum; first = writer.first; last = writer.last; index = at; blocks = count }) (has.count ∙ all)
-    ∙ ap (λ n. record { records = length (items_of blocks); sum = n; first = writer.first; last = writer.last; index = at; blocks = count }) (has.sum ∙ sizes)
-    ∙ ap (λ n. record { records = length (items_of blocks); sum = sum_by kind.size (items_of blocks); first = n; last = writer.last; index = at; blocks = count }) (has.first ∙ first)
-    ∙ ap (λ n. record { records = length (items_of blocks); sum = sum_by kind.size (items_of blocks); first = first_number kind (items_of blocks); last = n; index = at; blocks = count }) (has.last ∙ last)
-    ∙ ap (λ n. record { records = length (items_of blocks); sum = sum_by kind.size (items_of blocks); first = first_number kind (items_of blocks); last = last_number kind (items_of blocks); index = n; blocks = count }) ends
-    ∙ ap (λ n. record { records = length (items_of blocks); sum = sum_by kind.size (items_of blocks); first = first_number kind (items_of blocks); last = last_number kind (items_of blocks); index = end_of kind blocks; blocks = n }) many
+    same_footer (footer_from false (summary_of writer) at len count) (footer_of kind blocks) (has.count ∙ ap length in_blocks) (has.sum ∙ ap (sum_by kind.size) in_blocks)
+    (has.first ∙ ap (first_number kind) in_blocks) (has.last ∙ ap (last_number kind) in_blocks) ends refl many
 
--- What was put into a file in writing by its end: the full blocks, the last one, an index, a footer.
+-- a file that was written behind the frames of its blocks
 pub record IsSealed {S : Type 0} (told : S → Option (List ℕ)) (file : SealedFile S) (bodies : List (List ℕ)) : Type 0 where
   pub bytes : IfSome (told file.file) (λ bytes. bytes ≡ numbered_frames bodies)
   pub len : file.len ≡ length (numbered_frames bodies)
 
-pub finished : {T D S : Type 0} (kind : Kind T) (drafted : D → Option (List ℕ)) (told : S → Option (List ℕ)) (writer : Filing D) (index : List BlockHandle) (at count : ℕ) (file : SealedFile S) (records : List T)
+-- a writer's file, whose last block was closed
+pub finished : {T D S : Type 0} (kind : Kind T) (form : Form) → form.filtered ≡ false → (drafted : D → Option (List ℕ)) (told : S → Option (List ℕ)) (writer : Filing D) (closed : Closed D ℕ) (filed : Filed S) (records : List T)
     → HasRecords kind drafted writer records → 0 < writer.records → 20 * (length writer.index + 1) < 2 ^ 32
-    → index ≡ writer.index ++ record { first = writer.block_first; at = writer.frames.len; len = length writer.block + 20 } ∷ []
-    → at ≡ writer.frames.len + length writer.block + 20 → count ≡ length index
-    → ((bodies : List (List ℕ)) → HasFrames drafted writer.frames bodies
-    → IsSealed told file (((bodies ++ writer.block ∷ []) ++ index_bytes index ∷ []) ++ footer_bytes (footer_at writer at count) ∷ []))
-    → Represents kind told (record { file = file; footer = footer_at writer at count; index = index }) records
-finished {T} {D} {S} kind drafted told writer index at count file records has some few indexed offset counted is_sealed =
+    → closed.index ≡ writer.index ++ item_of writer ∷ [] → closed.frames.len ≡ writer.frames.len + length writer.block + 20
+    → ((bodies : List (List ℕ)) → HasFrames drafted writer.frames bodies → HasFrames drafted closed.frames (bodies ++ writer.block ∷ []))
+    → filed.index ≡ closed.index → filed.footer ≡ footer_from form.filtered (summary_of writer) closed.frames.len (index_length number_keys closed.index) (length closed.index)
+    → ((bodies : List (List ℕ)) → HasFrames drafted closed.frames bodies → IsSealed told filed.file (file_bodies number_keys form.filtered bodies closed.index [] filed.footer))
+    → Represents kind told filed records
+finished {T} {D} {S} kind form unfiltered drafted told writer closed filed records has some few indexed long framed index said is_sealed =
     let blocks = has.full ++ has.last_block ∷ [] in
     let bodies = map (block_of kind) has.full in
-    let handles : index ≡ index_from kind 0 blocks =
+    let closed_is : closed.index ≡ index_from kind 0 blocks =
     indexed ∙ index_closed kind drafted writer.frames writer.index writer.block writer.block_first has.full has.last_block has.index has.block has.block_first has.frames in
-    let many : count ≡ length writer.index + 1 =
-    omega (arith, counted, ap length indexed, length-append writer.index (record { first = writer.block_first; at = writer.frames.len; len = length writer.block + 20 } ∷ [])) in
-    let footer = footer_is kind drafted writer at count records has offset many in
+    let many : length closed.index ≡ length writer.index + 1 = omega (arith, ap length indexed, length-append writer.index (item_of writer ∷ [])) in
+    let footer : filed.footer ≡ footer_of kind blocks =
+    said ∙ ap (λ (b : Bool). footer_from b (summary_of writer) closed.frames.len (index_length number_keys closed.index) (length closed.index)) unfiltered
+    ∙ footer_is kind drafted writer closed.frames.len (index_length number_keys closed.index) (length closed.index) records has long many in
     let mapped : bodies ++ writer.block ∷ [] ≡ map (block_of kind) blocks =
     ap (λ body. bodies ++ body ∷ []) has.block ∙ sym (map-append (block_of kind) has.full (has.last_block ∷ [])) in
-    let same : ((bodies ++ writer.block ∷ []) ++ index_bytes index ∷ []) ++ footer_bytes (footer_at writer at count) ∷ [] ≡ bodies_of kind blocks =
-    append_assoc (bodies ++ writer.block ∷ []) (index_bytes index ∷ []) (footer_bytes (footer_at writer at count) ∷ [])
-    ∙ ap (λ front. front ++ index_bytes index ∷ footer_bytes (footer_at writer at count) ∷ []) mapped
-    ∙ ap (λ (e : List BlockHandle). map (block_of kind) blocks ++ index_bytes e ∷ footer_bytes (footer_at writer at count) ∷ []) handles
-    ∙ ap (λ (f : Footer). map (block_of kind) blocks ++ index_bytes (index_from kind 0 blocks) ∷ footer_bytes f ∷ []) footer in
-    let whole = subst (IsSealed told file) same (is_sealed bodies has.frames) in
+    let same : file_bodies number_keys form.filtered (bodies ++ writer.block ∷ []) closed.index [] filed.footer ≡ bodies_of kind blocks =
+    ap (λ (b : Bool). file_bodies number_keys b (bodies ++ writer.block ∷ []) closed.index [] filed.footer) unfiltered
+    ∙ ap (λ front. file_bodies number_keys false front closed.index [] filed.footer) mapped
+    ∙ ap (λ (e : List (BlockHandle ℕ)). file_bodies number_keys false (map (block_of kind) blocks) e [] filed.footer) closed_is
+    ∙ ap (λ (f : Footer). file_bodies number_keys false (map (block_of kind) blocks) (index_from kind 0 blocks) [] f) footer in
+    let whole = subst (IsSealed told filed.file) same (is_sealed (bodies ++ writer.block ∷ []) (framed bodies has.frames)) in
     record {
       blocks = blocks;
       are = are_blocks kind drafted writer records has some few;
@@ -246,66 +251,55 @@ finished {T} {D} {S} kind drafted told writer index at count file records has so
       bytes = whole.bytes;
       len = whole.len;
       footer = footer;
-      index = handles;
+      index = index ∙ closed_is;
     }
 
 -- ---- what keeps a writer's numbers and its index right
 
--- the index item of the block in writing
-abbrev pub item_of : {D : Type 0} → Filing D → BlockHandle
-item_of writer = record { first = writer.block_first; at = writer.frames.len; len = length writer.block + 20 }
-
-item_right : {D : Type 0} (w : Filing D) → IsBounded w → w.block ≢ [] → IsIndexFrom 1 0 (w.index ++ item_of w ∷ []) (w.frames.len + (length w.block + 20))
-item_right w bounded some =
-    index_push 1 0 w.index w.frames.len (item_of w) bounded.right (bounded.begins some).0 (omega (arith, (bounded.begins some).1, bounded.last)) refl
-    (omega (arith, bounded.offset, bounded.blocks)) (omega (arith, bounded.block))
-
-first_there : {D : Type 0} (w : Filing D) (index : List BlockHandle) → (index ≡ [] → w.first ≡ w.block_first) → (index ≢ [] → w.first ≡ first_of index) → w.first ≡ first_of (index ++ item_of w ∷ [])
+first_there : {D : Type 0} (w : Filing D) (index : List (BlockHandle ℕ)) → (index ≡ [] → w.first ≡ w.block_first) → (index ≢ [] → w.first ≡ first_of index) → w.first ≡ first_of (index ++ item_of w ∷ [])
 first_there w [] none some = none refl
 first_there w (e ∷ index) none some = some (λ e. cc)
 
-no_items : (index : List BlockHandle) (e : BlockHandle) → index ++ e ∷ [] ≡ [] → ⊥
+no_items : (index : List (BlockHandle ℕ)) (e : BlockHandle ℕ) → index ++ e ∷ [] ≡ [] → ⊥
 no_items [] e is = cc
 no_items (x ∷ index) e is = cc
 
 -- the block in writing was put into the file
-pub bounded_closed : {D : Type 0} (drafted : D → Option (List ℕ)) (old new : Filing D) → IsBounded old → old.block ≢ [] → 20 * (length old.index + 2) < 2 ^ 32
-    → new.frames.len ≡ old.frames.len + length old.block + 20 → new.index ≡ old.index ++ item_of old ∷ [] → new.block ≡ [] → new.records ≡ old.records → new.sum ≡ old.sum → new.first ≡ old.first → new.last ≡ old.last
-    → IsBounded new
-bounded_closed {D} drafted old new bounded some room len index block records sum first last =
+pub bounded_closed : {T D : Type 0} (kind : Kind T) (old new : Filing D) → IsBounded kind old → old.block ≢ [] → 20 * (length old.index + 2) < 2 ^ 32
+    → new.index ≡ old.index ++ item_of old ∷ [] → new.block ≡ [] → new.records ≡ old.records → new.sum ≡ old.sum → new.first ≡ old.first → new.last ≡ old.last
+    → IsBounded kind new
+bounded_closed {T} {D} kind old new bounded some room index block records sum first last =
     let count : length new.index ≡ length old.index + 1 = ap length index ∙ length-append old.index (item_of old ∷ []) in
-    let right : IsIndexFrom 1 0 new.index new.frames.len = subst (λ (n : ℕ). IsIndexFrom 1 0 new.index n) (omega (arith, len))
-    (subst (λ (es : List BlockHandle). IsIndexFrom 1 0 es (old.frames.len + (length old.block + 20))) (sym index) (item_right old bounded some)) in
     let some_records : old.records ≢ 0 = λ e. some (bounded.none e).1 in
     record {
       blocks = omega (arith, room, count);
-      right = right;
-      offset = omega (arith, len, count, bounded.offset, bounded.block);
       block = omega (arith, ap length block);
+      writing = record { records = []; fit = tt; body = block; small = inl (omega (arith, ap length block)) };
       counted = omega (arith, records, count, bounded.records);
       records = omega (arith, records, count, bounded.records);
       sum = omega (arith, sum, records, bounded.sum);
       none = λ e. absurd (some_records (sym records ∙ e));
       begins = λ more. absurd (more block);
-      ends = λ _. omega (arith, ap (least_after 1) index, least_after-push 1 old.index (item_of old), (bounded.begins some).1, last);
+      ends = λ _. omega (arith, ap (first_after 0) index, first_after-push 0 old.index (item_of old), (bounded.begins some).1, last);
       first = λ more. absurd (more block);
       first_later = λ _. first ∙ first_there old old.index (λ none. bounded.first some none) bounded.first_later ∙ ap first_of (sym index);
+      first_small = omega (arith, first, bounded.first_small);
       last = omega (arith, last, bounded.last);
     }
 
-some_blocks : (index : List BlockHandle) → index ≢ [] → 1 ≤ length index
+some_blocks : (index : List (BlockHandle ℕ)) → index ≢ [] → 1 ≤ length index
 some_blocks [] some = absurd (some refl)
 some_blocks (e ∷ index) some = omega arith
 
-none_when : (index : List BlockHandle) → length index ≡ 0 → index ≡ []
+none_when : (index : List (BlockHandle ℕ)) → length index ≡ 0 → index ≡ []
 none_when [] none = refl
 none_when (e ∷ index) none = absurd (omega (arith, none))
 
 -- nothing was put into the block in writing
-pub same_block : {D : Type 0} (w : Filing D) (block : List ℕ) → IsBounded w → w.block ≡ block
-    → IsBounded (record { id = w.id; frames = w.frames; index = w.index; block = block; block_first = w.block_first; records = w.records; sum = w.sum; first = w.first; last = w.last })
-same_block {D} w block bounded is =
-    subst (λ (b : List ℕ). let v : Filing D = record { id = w.id; frames = w.frames; index = w.index; block = b; block_first = w.block_first; records = w.records; sum = w.sum; first = w.first; last = w.last } in IsBounded v) is bounded
+pub same_block : {T D : Type 0} (kind : Kind T) (w : Filing D) (block : List ℕ) → IsBounded kind w → w.block ≡ block
+    → IsBounded kind (record { id = w.id; frames = w.frames; index = w.index; block = block; block_first = w.block_first; records = w.records; sum = w.sum; first = w.first; last = w.last })
+same_block {T} {D} kind w block bounded is =
+    subst (λ (b : List ℕ). let v : Filing D = record { id = w.id; frames = w.frames; index = w.index; block = b; block_first = w.block_first; records = w.records; sum = w.sum; first = w.first; last = w.last } in IsBounded kind v) is bounded
 
 zero_or : (n : ℕ) → (n ≡ 0) ⊎ (n ≢ 0)
 zero_or zero = inl refl
@@ -320,8 +314,8 @@ follow_last w number (inl none) some = absurd (some none)
 follow_last w number (inr above) some = omega (arith, above)
 
 -- a record was put into the block in writing
-pub bounded_put : {T D : Type 0} (kind : Kind T) → IsLawful kind → (old new : Filing D) (it : T) → IsBounded old → IsRecord kind it → MayFollow old (kind.seq it)
-    → (old.block ≡ []) ⊎ (length old.block + length (record_bytes kind it) ≤ 4096) → IsPut kind old it new → IsBounded new
+pub bounded_put : {T D : Type 0} (kind : Kind T) → IsLawful kind → (old new : Filing D) (it : T) → IsBounded kind old → IsRecord kind it → MayFollow old (kind.seq it)
+    → (old.block ≡ []) ⊎ (length old.block + length (record_bytes kind it) ≤ 4096) → IsPut kind old it new → IsBounded kind new
 bounded_put {T} {D} kind lawful old new it bounded fits follow room put =
     let index : length new.index ≡ length old.index = ap length put.index in
     let block : length new.block ≡ length old.block + length (record_bytes kind it) = ap length put.block ∙ length-append old.block (record_bytes kind it) in
@@ -330,17 +324,17 @@ bounded_put {T} {D} kind lawful old new it bounded fits follow room put =
     let size = lawful.most_size it fits.fits in
     let some : 1 ≤ kind.seq it = fits.some in
     let small : kind.seq it < 2 ^ 62 = fits.small in
-    let least : least_after 1 old.index ≤ kind.seq it = elim follow [
-      | inl none ↦ omega (arith, ap (least_after 1) (bounded.none none).0, some)
-      | inr above ↦ elim (zero_or old.records) [
-        | inl none ↦ omega (arith, ap (least_after 1) (bounded.none none).0, some)
-        | inr more ↦ omega (arith, bounded.ends more, above)
+    let above : first_after 0 old.index < kind.seq it = elim follow [
+      | inl none ↦ omega (arith, ap (first_after 0) (bounded.none none).0, some)
+      | inr later ↦ elim (zero_or old.records) [
+        | inl none ↦ omega (arith, ap (first_after 0) (bounded.none none).0, some)
+        | inr more ↦ omega (arith, bounded.ends more, later)
       ]
     ] in
-    let here : (least_after 1 new.index ≤ new.block_first) × (new.block_first ≤ new.last) = elim (none_or old.block) [
-      | inl none ↦ (omega (arith, ap (least_after 1) put.index, least, put.block_begins none), omega (arith, put.block_begins none, put.last))
+    let here : (first_after 0 new.index < new.block_first) × (new.block_first ≤ new.last) = elim (none_or old.block) [
+      | inl none ↦ (omega (arith, ap (first_after 0) put.index, above, put.block_begins none), omega (arith, put.block_begins none, put.last))
       | inr more ↦ (
-        omega (arith, ap (least_after 1) put.index, (bounded.begins more).0, put.block_goes_on more),
+        omega (arith, ap (first_after 0) put.index, (bounded.begins more).0, put.block_goes_on more),
         omega (arith, put.block_goes_on more, put.last, (bounded.begins more).1, follow_last old (kind.seq it) follow (λ e. more (bounded.none e).1)),
       )
     ] in
@@ -350,11 +344,24 @@ bounded_put {T} {D} kind lawful old new it bounded fits follow room put =
           put.begins zero ∙ sym (put.block_begins empty))
       | inr more ↦ put.goes_on (λ e. more (bounded.none e).1) ∙ bounded.first more (sym put.index ∙ none) ∙ sym (put.block_goes_on more)
     ] in
+    let writing : IsOpen kind new.block = elim room [
+      | inl none ↦ record {
+        records = it ∷ [];
+        fit = (fits, tt);
+        body = put.block ∙ ap (λ bytes. bytes ++ record_bytes kind it) none ∙ sym (block_of-one kind it);
+        small = inr refl;
+      }
+      | inr less ↦ record {
+        records = bounded.writing.records ++ it ∷ [];
+        fit = each-append (IsRecord kind) bounded.writing.records (it ∷ []) bounded.writing.fit (fits, tt);
+        body = put.block ∙ ap (λ bytes. bytes ++ record_bytes kind it) bounded.writing.body ∙ sym (block_of-push kind bounded.writing.records it);
+        small = inl (omega (arith, block, less));
+      }
+    ] in
     record {
       blocks = omega (arith, index, bounded.blocks);
-      right = subst (λ (n : ℕ). IsIndexFrom 1 0 new.index n) (sym (ap (λ (f : Written D). f.len) put.frames)) (subst (λ (es : List BlockHandle). IsIndexFrom 1 0 es old.frames.len) (sym put.index) bounded.right);
-      offset = omega (arith, index, ap (λ (f : Written D). f.len) put.frames, bounded.offset);
       block = elim room [ inl none ↦ omega (arith, block, ap length none, most) | inr less ↦ omega (arith, block, less) ];
+      writing = writing;
       counted = omega (arith, put.records, index, block, bytes, bounded.counted);
       records = elim room [
         | inl none ↦ omega (arith, put.records, index, bounded.counted, ap length none)
@@ -368,53 +375,43 @@ bounded_put {T} {D} kind lawful old new it bounded fits follow room put =
       first_later = λ more.
           (let some' : old.records ≢ 0 = λ e. more (put.index ∙ (bounded.none e).0) in
           put.goes_on some' ∙ bounded.first_later (λ e. more (put.index ∙ e)) ∙ ap first_of (sym put.index));
+      first_small = elim (zero_or old.records) [ inl none ↦ omega (arith, put.begins none, small) | inr more ↦ omega (arith, put.goes_on more, bounded.first_small) ];
       last = omega (arith, put.last, small);
     }
 
+-- the block in writing has a frame as long as one of the kind may be
+pub open_frame : {T : Type 0} (kind : Kind T) (form : Form) → IsFramed kind form → (block : List ℕ) → IsOpen kind block → block ≢ [] → IsFrameLength form (length block + 20)
+open_frame kind form framed block writing some =
+    subst (λ (n : ℕ). IsFrameLength form (n + 20)) (sym (ap length writing.body))
+    (framed.frames writing.records writing.fit
+    (record { some = λ none. some (writing.body ∙ ap (block_of kind) none); small = elim writing.small [ inl less ↦ inl (omega (arith, less, ap length writing.body)) | inr one ↦ inr one ] }))
+
 -- ---- the file that a writer makes is kept
 
-footer_small : {D : Type 0} (w : Filing D) (index : List BlockHandle) (at : ℕ) → IsBounded w → 0 < w.records → IsIndexFrom 1 0 index at → w.first ≡ first_of index → 1 ≤ length index → length index ≤ length w.index + 1
-    → at < 2 ^ 62 → IsFooter (footer_at w at (length index))
-footer_small w index at bounded some right first many few near = record {
-  records = omega (arith, bounded.records, bounded.blocks);
+pub is_summary : {T D : Type 0} (kind : Kind T) (w : Filing D) → IsBounded kind w → 0 < w.records → IsSummary (summary_of w)
+is_summary kind w bounded some = record {
+  some = omega (arith, some);
+  count = omega (arith, bounded.records, bounded.blocks);
   sum = omega (arith, bounded.sum, bounded.records, bounded.blocks);
-  first = omega (arith, first, first_small 1 0 index at right);
-  last = bounded.last;
-  index = near;
-  blocks = omega (arith, few, bounded.blocks);
-  some_records = omega (arith, some);
-  some_blocks = many;
+  low = bounded.first_small;
+  high = bounded.last;
 }
 
 -- with the block in writing
-pub kept_closed : {D : Type 0} (w : Filing D) (index : List BlockHandle) (at count : ℕ) → IsBounded w → 0 < w.records → w.block ≢ [] → index ≡ w.index ++ item_of w ∷ [] → at ≡ w.frames.len + length w.block + 20
-    → count ≡ length index → IsKept (footer_at w at count) index
-kept_closed {D} w index at count bounded some more is offset counted =
-    let many : length index ≡ length w.index + 1 = ap length is ∙ length-append w.index (item_of w ∷ []) in
-    let right : IsIndexFrom 1 0 index at = subst (λ (n : ℕ). IsIndexFrom 1 0 index n) (omega (arith, offset)) (subst (λ (es : List BlockHandle). IsIndexFrom 1 0 es (w.frames.len + (length w.block + 20))) (sym is) (item_right w bounded more)) in
-    let first : w.first ≡ first_of index = first_there w w.index (λ none. bounded.first more none) bounded.first_later ∙ ap first_of (sym is) in
-    record {
-      is_footer = subst (λ (n : ℕ). IsFooter (footer_at w at n)) (sym counted) (footer_small w index at bounded some right first (omega (arith, many)) (omega (arith, many)) (omega (arith, offset, bounded.offset, bounded.blocks, bounded.block)));
-      right = right;
-      count = sym counted;
-      first = sym first;
-      last = omega (arith, ap (least_after 1) is, least_after-push 1 w.index (item_of w), (bounded.begins more).1);
-    }
+pub agrees_closed : {T D : Type 0} (kind : Kind T) (w : Filing D) (footer : Footer) (index : List (BlockHandle ℕ)) → IsBounded kind w → w.block ≢ [] → index ≡ w.index ++ item_of w ∷ []
+    → footer.low ≡ w.first → footer.high ≡ w.last → Agrees footer index
+agrees_closed kind w footer index bounded more is low high = record {
+  first = ap first_of is ∙ sym (first_there w w.index (λ none. bounded.first more none) bounded.first_later) ∙ sym low;
+  last = omega (arith, ap (first_after 0) is, first_after-push 0 w.index (item_of w), (bounded.begins more).1, high);
+}
 
 -- without one
-pub kept_open : {D : Type 0} (w : Filing D) (index : List BlockHandle) (at count : ℕ) → IsBounded w → 0 < w.records → w.block ≡ [] → index ≡ w.index → at ≡ w.frames.len → count ≡ length index → IsKept (footer_at w at count) index
-kept_open {D} w index at count bounded some none is offset counted =
-    let many : 1 ≤ length index = omega (arith, bounded.counted, ap length none, some, ap length is) in
-    let more : w.index ≢ [] = λ e. omega (arith, many, ap length is, ap length e) in
-    let right : IsIndexFrom 1 0 index at = subst (λ (n : ℕ). IsIndexFrom 1 0 index n) (sym offset) (subst (λ (es : List BlockHandle). IsIndexFrom 1 0 es w.frames.len) (sym is) bounded.right) in
-    let first : w.first ≡ first_of index = bounded.first_later more ∙ ap first_of (sym is) in
-    record {
-      is_footer = subst (λ (n : ℕ). IsFooter (footer_at w at n)) (sym counted) (footer_small w index at bounded some right first many (omega (arith, ap length is)) (omega (arith, offset, bounded.offset, bounded.blocks)));
-      right = right;
-      count = sym counted;
-      first = sym first;
-      last = omega (arith, ap (least_after 1) is, bounded.ends (λ e. omega (arith, some, e)));
-    }
+pub agrees_open : {T D : Type 0} (kind : Kind T) (w : Filing D) (footer : Footer) (index : List (BlockHandle ℕ)) → IsBounded kind w → 0 < w.records → w.block ≡ [] → index ≡ w.index
+    → footer.low ≡ w.first → footer.high ≡ w.last → Agrees footer index
+agrees_open kind w footer index bounded some none is low high = record {
+  first = ap first_of is ∙ sym (bounded.first_later (λ e. omega (arith, some, bounded.counted, ap length none, ap length e))) ∙ sym low;
+  last = omega (arith, ap (first_after 0) is, bounded.ends (λ e. omega (arith, some, e)), high);
+}
 
 -- a writer that has records has some in the block in writing
 pub some_in_writing : {T D : Type 0} (kind : Kind T) → IsLawful kind → (drafted : D → Option (List ℕ)) (w : Filing D) (records : List T) → HasRecords kind drafted w records → 0 < w.records → w.block ≢ []

@@ -1,12 +1,13 @@
 -- A sealed file of numbered records: the blocks, an index of them, a footer, each in a frame.
-use Rattle.std.specs.Prelude.{◌≡◌, ◌≢◌, ℕ, ◌+◌, ◌*◌, ◌<◌, ◌^◌, List, [], ◌∷◌, ◌++◌, length, map, sum_by, nat_eq, Option, find}
+use Rattle.std.specs.Prelude.{◌≡◌, ◌≢◌, ℕ, ◌+◌, ◌*◌, ◌<◌, ◌^◌, List, [], ◌∷◌, ◌++◌, length, map, sum_by, nat_eq, false, Option, None, find}
 use Rattle.std.specs.List.{AllByRecursion}
-use Rattle.mg_frame.specs.BigEndian.{big_endian}
 use Rattle.mg_frame.specs.Frames.{numbered_frames}
 use Rattle.mg_sealed.specs.Filling.{AreFilled, items_of}
+use Rattle.mg_indexed.specs.NumberKeys.{number_keys}
+use Rattle.mg_indexed.specs.Writing.{file_bodies}
 use Rattle.mg_records.specs.Record.{Kind, IsRecord, record_bytes}
-use Rattle.mg_records.specs.declared.footer.Footer.{Footer}
-use Rattle.mg_records.specs.declared.index.BlockHandle.{BlockHandle}
+use Rattle.mg_indexed.specs.declared.footer.Footer.{Footer}
+use Rattle.mg_indexed.specs.declared.handle.BlockHandle.{BlockHandle}
 
 -- the body of a block of these records: their spellings, one after the other
 abbrev pub block_of : {T : Type 0} → Kind T → List T → List ℕ
@@ -37,21 +38,12 @@ abbrev pub AreRising : {T : Type 0} → Kind T → List T → Type 0
 AreRising kind [] = Unit {0}
 AreRising kind (it ∷ records) = RiseAfter kind it records
 
--- a block handle's fields, as a frame's body has them
-abbrev pub handle_bytes : BlockHandle → List ℕ
-handle_bytes handle = big_endian 8 handle.first ++ big_endian 8 handle.at ++ big_endian 4 handle.len
-
--- the body of an index frame
-abbrev pub index_bytes : List BlockHandle → List ℕ
-index_bytes [] = []
-index_bytes (handle ∷ handles) = handle_bytes handle ++ index_bytes handles
-
 -- the whole length of the frame of a block
 abbrev pub frame_length : {T : Type 0} → Kind T → List T → ℕ
 frame_length kind block = length (block_of kind block) + 20
 
 -- the index of blocks whose frames stand one after the other from this offset on
-abbrev pub index_from : {T : Type 0} → Kind T → ℕ → List (List T) → List BlockHandle
+abbrev pub index_from : {T : Type 0} → Kind T → ℕ → List (List T) → List (BlockHandle ℕ)
 index_from kind at [] = []
 index_from kind at (block ∷ blocks) =
     record { first = first_number kind block; at = at; len = frame_length kind block } ∷ index_from kind (at + frame_length kind block) blocks
@@ -60,28 +52,23 @@ index_from kind at (block ∷ blocks) =
 abbrev pub end_of : {T : Type 0} → Kind T → List (List T) → ℕ
 end_of kind blocks = sum_by (frame_length kind) blocks
 
--- the fields of a footer, as its frame's body has them: format 1, and then the numbers
-abbrev pub footer_bytes : Footer → List ℕ
-footer_bytes footer =
-    big_endian 1 1 ++ big_endian 8 footer.records ++ big_endian 8 footer.sum ++ big_endian 8 footer.first ++ big_endian 8 footer.last
-    ++ big_endian 8 footer.index ++ big_endian 4 footer.blocks
-
 -- the footer of these blocks
 abbrev pub footer_of : {T : Type 0} → Kind T → List (List T) → Footer
 footer_of kind blocks =
     let records = items_of blocks in
     record {
-      records = length records;
+      count = length records;
       sum = sum_by kind.size records;
-      first = first_number kind records;
-      last = last_number kind records;
-      index = end_of kind blocks;
+      low = first_number kind records;
+      high = last_number kind records;
+      index_at = end_of kind blocks;
+      filter_at = None;
       blocks = length blocks;
     }
 
 -- the bodies of the frames of a file of these blocks
 abbrev pub bodies_of : {T : Type 0} → Kind T → List (List T) → List (List ℕ)
-bodies_of kind blocks = map (block_of kind) blocks ++ index_bytes (index_from kind 0 blocks) ∷ footer_bytes (footer_of kind blocks) ∷ []
+bodies_of kind blocks = file_bodies number_keys false (map (block_of kind) blocks) (index_from kind 0 blocks) [] (footer_of kind blocks)
 
 -- These blocks may be those of a file.
 pub record AreBlocks {T : Type 0} (kind : Kind T) (blocks : List (List T)) : Type 0 where

@@ -4,6 +4,7 @@ pub mod ContentsLaws
 pub mod DeadLaws
 pub mod DeadRecord
 pub mod File
+pub mod Framed
 pub mod Indexes
 pub mod ItemLaws
 pub mod ItemRecord

@@ -1,7 +1,6 @@
 -- What is read of the blocks of a file of records.
 use Rattle.std.specs.Prelude.{◌≡◌, ◌≢◌, ℕ, zero, suc, ◌+◌, ◌<◌, ◌≤◌, ◌^◌, ◌⊎◌, List, [], ◌∷◌, ◌++◌, length, sum_by, ◌-◌, slice_index_or, filter, nat_lt, Option, Some, None, Ok, Err}
 use Rattle.std.specs.List.{AllByRecursion, Any}
-use Rattle.std.specs.List.Sorted.{IsPartitionPoint}
 use Rattle.mg_frame.specs.BigEndian.{big_endian}
 use Rattle.mg_frame.specs.Frame.{StandsAt}
 use Rattle.mg_types.specs.declared.faults.Fault.{Fault}
@@ -9,11 +8,13 @@ use Rattle.mg_types.specs.declared.faults.Fault.TheVariants.{Damaged, Malformed}
 use Rattle.mg_types.specs.declared.names.FileId.{FileId}
 use Rattle.mg_sealed.specs.Blocks.{block_body, IsUnfitAt}
 use Rattle.mg_sealed.specs.Filling.{Fits, items_of}
+use Rattle.mg_indexed.specs.Index.{BeginUpTo}
+use Rattle.mg_indexed.specs.NumberKeys.{number_keys}
 use Rattle.mg_records.specs.File.{block_of, record_of, last_number}
 use Rattle.mg_records.specs.Record.{Kind, IsRecord, record_bytes}
 use Rattle.mg_records.specs.Writing.{Filed}
 use Rattle.mg_records.specs.declared.block.Span.{Span}
-use Rattle.mg_records.specs.declared.index.BlockHandle.{BlockHandle}
+use Rattle.mg_indexed.specs.declared.handle.BlockHandle.{BlockHandle}
 
 -- ---- a block's body
 
@@ -117,19 +118,15 @@ pub record IsScanned {T : Type 0} (kind : Kind T) (before : ℕ) (span : Span) (
 
 -- ---- the blocks of a file
 
--- so many blocks of the index begin at most at this number, and the others above it
-abbrev pub BeginUpTo : List BlockHandle → ℕ → ℕ → Type 0
-BeginUpTo index number count = IsPartitionPoint (λ (handle : BlockHandle). handle.first ≤ number) (λ (handle : BlockHandle). number < handle.first) index count
-
 -- what is kept of the block of this number, from 0 on: its offset and first number, and as its end the next block's first number, or that behind the last one
 pub record IsSpan {S : Type 0} (filed : Filed S) (number : ℕ) (span : Span) : Type 0 where
   pub within : number < length filed.index
   pub file : span.file ≡ filed.file.id
-  pub at : (d : BlockHandle) → span.at ≡ (slice_index_or filed.index number d).at
-  pub first : (d : BlockHandle) → span.first ≡ (slice_index_or filed.index number d).first
-  pub len : (d : BlockHandle) → span.len ≡ (slice_index_or filed.index number d).len
-  pub inner : (d : BlockHandle) → number + 1 < length filed.index → span.end ≡ (slice_index_or filed.index (number + 1) d).first
-  pub outer : length filed.index ≤ number + 1 → span.end ≡ filed.footer.last + 1
+  pub at : (d : BlockHandle ℕ) → span.at ≡ (slice_index_or filed.index number d).at
+  pub first : (d : BlockHandle ℕ) → span.first ≡ (slice_index_or filed.index number d).first
+  pub len : (d : BlockHandle ℕ) → span.len ≡ (slice_index_or filed.index number d).len
+  pub inner : (d : BlockHandle ℕ) → number + 1 < length filed.index → span.end ≡ (slice_index_or filed.index (number + 1) d).first
+  pub outer : length filed.index ≤ number + 1 → span.end ≡ filed.footer.high + 1
 
 -- these records are the block of this number: its frame stands where the index says
 pub record IsBlockAt {T S : Type 0} (kind : Kind T) (bytes : List ℕ) (filed : Filed S) (number : ℕ) (block : List T) : Type 0 where
@@ -155,7 +152,7 @@ AreBlocksOf {T} kind bytes filed start (suc count) blocks =
 
 -- where a scan begins: at the last block that begins at most at `after`, or at the first block where `after` is below the first number
 abbrev pub StartsAt : {S : Type 0} → Filed S → ℕ → ℕ → Type 0
-StartsAt filed after start = ((start ≡ 0) × (after < filed.footer.first)) ⊎ ((filed.footer.first ≤ after) × BeginUpTo filed.index after (start + 1))
+StartsAt filed after start = ((start ≡ 0) × (after < filed.footer.low)) ⊎ ((filed.footer.low ≤ after) × BeginUpTo number_keys filed.index after (start + 1))
 
 -- What a scan gives: of the records of the blocks from the one on at which it begins, those with numbers above `after`. The last record is the footer's.
 pub record IsListed {T S : Type 0} (kind : Kind T) (bytes : List ℕ) (filed : Filed S) (after : ℕ) (found : List T) : Type 0 where
@@ -166,12 +163,12 @@ pub record IsListed {T S : Type 0} (kind : Kind T) (bytes : List ℕ) (filed : F
   pub up_to : start + count ≡ length filed.index
   pub are : AreBlocksOf kind bytes filed start count blocks
   pub found_are : found ≡ filter (λ it. nat_lt after (kind.seq it)) (items_of blocks)
-  pub last : last_number kind (items_of blocks) ≡ filed.footer.last
+  pub last : last_number kind (items_of blocks) ≡ filed.footer.high
 
 -- what a search for a number that is not below the first one answers: what is found in the last block that begins at most at it
 pub record IsGot {T S : Type 0} (kind : Kind T) (bytes : List ℕ) (filed : Filed S) (number : ℕ) (found : Option T) : Type 0 where
   pub block : ℕ
-  pub point : BeginUpTo filed.index number (block + 1)
+  pub point : BeginUpTo number_keys filed.index number (block + 1)
   pub span : Span
   pub is_span : IsSpan filed block span
   pub body : List ℕ
@@ -182,7 +179,7 @@ pub record IsGot {T S : Type 0} (kind : Kind T) (bytes : List ℕ) (filed : File
 -- ---- refusals
 
 -- a block of this index is damaged, or its body is outside its grammar
-abbrev pub IsBlockFault : FileId → List BlockHandle → Fault → Type 0
+abbrev pub IsBlockFault : FileId → List (BlockHandle ℕ) → Fault → Type 0
 IsBlockFault id index fault = Any (λ handle. IsUnfitAt id handle.at fault) index
 
 -- What is wrong with a block of this file: its frame, or its body. P says what is wrong with a body.
@@ -196,7 +193,7 @@ pub record IsBlockRefused {S : Type 0} (bytes : List ℕ) (filed : Filed S) (P :
 
 -- what is wrong with the block in which a number is sought
 abbrev pub IsSoughtRefused : {T S : Type 0} → Kind T → List ℕ → Filed S → ℕ → Fault → Type 0
-IsSoughtRefused kind bytes filed number fault = (refused : IsBlockRefused bytes filed (IsUnfitFor kind number) fault) × BeginUpTo filed.index number (refused.number + 1)
+IsSoughtRefused kind bytes filed number fault = (refused : IsBlockRefused bytes filed (IsUnfitFor kind number) fault) × BeginUpTo number_keys filed.index number (refused.number + 1)
 
 -- the blocks before this one, from where a scan begins on, are these
 abbrev pub WereListed : {T S : Type 0} → Kind T → List ℕ → Filed S → ℕ → ℕ → List (List T) → Type 0
@@ -204,7 +201,7 @@ WereListed kind bytes filed after number blocks = (start : ℕ) × (count : ℕ)
 
 -- the footer tells of this last number and, where no record is left out, of this count and this sum
 abbrev pub HasTotals : {S : Type 0} → Filed S → ℕ → ℕ → ℕ → ℕ → Type 0
-HasTotals filed after last count sum = (last ≡ filed.footer.last) × (after < filed.footer.first → (count ≡ filed.footer.records) × (sum ≡ filed.footer.sum))
+HasTotals filed after last count sum = (last ≡ filed.footer.high) × (after < filed.footer.low → (count ≡ filed.footer.count) × (sum ≡ filed.footer.sum))
 
 -- the footer tells of this last number and, where no record is left out, of these records
 abbrev pub AreTotals : {T S : Type 0} → Kind T → Filed S → ℕ → ℕ → List T → Type 0

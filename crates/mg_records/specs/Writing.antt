@@ -4,20 +4,20 @@ use Rattle.std.specs.List.{AllByRecursion}
 use Rattle.mg_frame.specs.Frames.{numbered_frames}
 use Rattle.mg_records.specs.File.{block_of, first_number, last_number, AreRising, index_from, footer_of, bodies_of, AreBlocks}
 use Rattle.mg_sealed.specs.Filling.{AreFilled, items_of}
-use Rattle.mg_records.specs.Indexes.{IsIndexFrom, first_of, least_after}
+use Rattle.mg_indexed.specs.Index.{first_after}
+use Rattle.mg_indexed.specs.Loading.{Loaded}
+use Rattle.mg_records.specs.Indexes.{first_of}
 use Rattle.mg_types.specs.declared.names.FileId.{FileId}
 use Rattle.mg_records.specs.Record.{Kind, IsRecord, record_bytes}
-use Rattle.mg_records.specs.declared.footer.Footer.{Footer}
-use Rattle.mg_records.specs.declared.index.BlockHandle.{BlockHandle}
+use Rattle.mg_indexed.specs.declared.handle.BlockHandle.{BlockHandle}
 use Rattle.mg_sealed.specs.Writing.{Written, HasFrames}
-use Rattle.mg_sealed.specs.declared.reading.SealedFile.{SealedFile}
 
 -- what a writer keeps: the file's id, the frames of the blocks that are full, their index, the body of the block in writing, how many records
 -- there are, the sum of their sizes, the first number of the block in writing, and of all records the first and the last one
 pub record Filing (D : Type 0) : Type 0 where
   pub id : FileId
   pub frames : Written D
-  pub index : List BlockHandle
+  pub index : List (BlockHandle ℕ)
   pub block : List ℕ
   pub block_first : ℕ
   pub records : ℕ
@@ -47,10 +47,8 @@ pub record HasRecords {T D : Type 0} (kind : Kind T) (drafted : D → Option (Li
   pub last : writer.last ≡ last_number kind records
 
 -- what is kept of a file: its footer and its index
-pub record Filed (S : Type 0) : Type 0 where
-  pub file : SealedFile S
-  pub footer : Footer
-  pub index : List BlockHandle
+abbrev pub Filed : Type 0 → Type 0
+Filed S = Loaded S ℕ
 
 -- The file is that of these records.
 pub record Represents {T S : Type 0} (kind : Kind T) (told : S → Option (List ℕ)) (filed : Filed S) (records : List T) : Type 0 where
@@ -62,21 +60,28 @@ pub record Represents {T S : Type 0} (kind : Kind T) (told : S → Option (List 
   pub footer : filed.footer ≡ footer_of kind blocks
   pub index : filed.index ≡ index_from kind 0 blocks
 
+-- the bytes are a block of records: none, several in at most 4,096 bytes, or a single one
+pub record IsOpen {T : Type 0} (kind : Kind T) (block : List ℕ) : Type 0 where
+  pub records : List T
+  pub fit : AllByRecursion (IsRecord kind) records
+  pub body : block ≡ block_of kind records
+  pub small : (length block ≤ 4096) ⊎ (length records ≡ 1)
+
 -- What keeps the numbers of a writer within their types, and its index one that rises: there is room for the block in writing, each block has at most
--- 4,096 records, and first numbers and offsets go on.
-pub record IsBounded {D : Type 0} (writer : Filing D) : Type 0 where
+-- 4,096 records, and first numbers go on.
+pub record IsBounded {T D : Type 0} (kind : Kind T) (writer : Filing D) : Type 0 where
   pub blocks : 20 * (length writer.index + 1) < 2 ^ 32
-  pub right : IsIndexFrom 1 0 writer.index writer.frames.len
-  pub offset : writer.frames.len ≤ length writer.index * 2 ^ 22
   pub block : length writer.block ≤ 2 ^ 21
+  pub writing : IsOpen kind writer.block
   pub counted : writer.records ≤ 4096 * length writer.index + length writer.block
   pub records : writer.records ≤ 4096 * length writer.index + 4096
   pub sum : writer.sum ≤ 1048826 * writer.records
   pub none : writer.records ≡ 0 → (writer.index ≡ []) × (writer.block ≡ [])
-  pub begins : writer.block ≢ [] → (least_after 1 writer.index ≤ writer.block_first) × (writer.block_first ≤ writer.last)
-  pub ends : writer.records ≢ 0 → least_after 1 writer.index ≤ writer.last + 1
+  pub begins : writer.block ≢ [] → (first_after 0 writer.index < writer.block_first) × (writer.block_first ≤ writer.last)
+  pub ends : writer.records ≢ 0 → first_after 0 writer.index ≤ writer.last
   pub first : writer.block ≢ [] → writer.index ≡ [] → writer.first ≡ writer.block_first
   pub first_later : writer.index ≢ [] → writer.first ≡ first_of writer.index
+  pub first_small : writer.first < 2 ^ 62
   pub last : writer.last < 2 ^ 62
 
 -- The block in writing was put into the file, and its handle into the index.

@@ -14,7 +14,7 @@ const SIZE_LEN: usize = 4;
 
 impl Record for Dead {
     ghost use Rattle.mg_records.specs.DeadRecord.{dead_kind};
-    ghost use Rattle.mg_records.specs.DeadLaws.{dead_lawful};
+    ghost use Rattle.mg_records.specs.DeadLaws.{dead_framed, dead_lawful};
 
     ghost kind = { dead_kind };
 
@@ -52,4 +52,6 @@ impl Record for Dead {
     }
 
     ghost lawful = { dead_lawful };
+
+    ghost framed = { dead_framed };
 }

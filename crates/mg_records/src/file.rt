@@ -1,46 +1,42 @@
 //! A file of records.
 
 ghost use Rattle.std.specs.Prelude.{◌≡◌, ℕ, ◌+◌, ◌<◌, ◌≤◌, ◌^◌, List, length, Option, sum_by};
-ghost use Rattle.std.specs.List.Sorted.{IsNonDecreasingBy, IsPartitionPoint};
+ghost use Rattle.mg_indexed.specs.Index.{BeginUpTo};
+ghost use Rattle.mg_indexed.specs.NumberKeys.{number_keys};
 ghost use Rattle.mg_records.specs.File.{first_number, last_number};
-ghost use Rattle.mg_records.specs.Lookup.{BeginUpTo, IsSpan, StartsAt};
+ghost use Rattle.mg_records.specs.Lookup.{IsSpan, StartsAt};
 ghost use Rattle.mg_records.specs.Writing.{Represents};
-ghost use Rattle.mg_records.specs.declared.index.BlockHandle.{BlockHandle};
 
 use crate::block::Span;
-use crate::footer::Footer;
-use crate::index::BlockHandle;
 use crate::record::Record;
+use mg_indexed::{Footer, Indexed};
 use mg_sealed::SealedFile;
-use std::marker::{Model, PhantomData};
+use std::marker::Model;
 
 /// A sealed file of records of one kind. It keeps its footer and its index, and no block.
 #[derive(Drop)]
-pub struct RecordFile<S, R> {
-    pub(crate) file: SealedFile<S>,
-    pub(crate) footer: Footer,
-    pub(crate) index: Vec<BlockHandle>,
-    pub(crate) kind: PhantomData<R>,
+pub struct RecordFile<S, R: Record> {
+    pub(crate) indexed: Indexed<S, u64, R>,
 }
 
-impl<S, R> Model for RecordFile<S, R> {
+impl<S, R: Record> Model for RecordFile<S, R> {
     ghost use Rattle.mg_records.specs.Reading.{IsKept};
     ghost use Rattle.mg_records.specs.Writing.{Filed};
 
     ghost Value = { Filed S };
 
-    ghost view = { λ f. record { file = f.file; footer = f.footer; index = f.index.items } };
+    ghost view = { λ f. f.indexed };
 
-    ghost invariant = { λ f. IsKept f.footer f.index.items };
+    ghost invariant = { λ f. IsKept R.BlockItem.form f.indexed.footer f.indexed.index };
 }
 
 impl<S, R: Record> RecordFile<S, R> {
     /// How many records the file has.
     pub fn count(&self) -> u64
-        ensures footer { result ≡ self.now.footer.records }
+        ensures footer { result ≡ self.now.footer.count }
         ensures records { (told : S → Option (List ℕ)) (records : List R) → Represents R.kind told self.now records → result ≡ length records }
     {
-        self.footer.records
+        self.indexed.footer().count
     }
 
     /// The sum of the sizes of the records.
@@ -48,39 +44,39 @@ impl<S, R: Record> RecordFile<S, R> {
         ensures footer { result ≡ self.now.footer.sum }
         ensures records { (told : S → Option (List ℕ)) (records : List R) → Represents R.kind told self.now records → result ≡ sum_by R.kind.size records }
     {
-        self.footer.sum
+        self.indexed.footer().sum
     }
 
     /// The number of the first record.
     pub fn first(&self) -> u64
-        ensures footer { result ≡ self.now.footer.first }
+        ensures footer { result ≡ self.now.footer.low }
         ensures records { (told : S → Option (List ℕ)) (records : List R) → Represents R.kind told self.now records → result ≡ first_number R.kind records }
     {
-        self.footer.first
+        self.indexed.footer().low
     }
 
     /// The number of the last record.
     pub fn last(&self) -> u64
-        ensures footer { result ≡ self.now.footer.last }
+        ensures footer { result ≡ self.now.footer.high }
         ensures records { (told : S → Option (List ℕ)) (records : List R) → Represents R.kind told self.now records → result ≡ last_number R.kind records }
     {
-        self.footer.last
+        self.indexed.footer().high
     }
 
     /// The file itself, with its id and its length.
     pub fn sealed(&self) -> &SealedFile<S>
         ensures { result.now ≡ self.now.file }
     {
-        &self.file
+        self.indexed.file()
     }
 
     /// The block, from 0 on, that has the record of this number where the file has one.
     pub(crate) fn block_of(&self, number: u64) -> usize
-        requires { self.now.footer.first ≤ number }
+        requires { self.now.footer.low ≤ number }
         ensures within { result < length self.now.index }
-        ensures point { BeginUpTo self.now.index number (result + 1) }
+        ensures point { BeginUpTo number_keys self.now.index number (result + 1) }
     {
-        blocks_up_to(&self.index, number) - 1
+        self.indexed.blocks_up_to(&number) - 1
     }
 
     /// The block, from 0 on, in which the records above this number begin.
@@ -88,7 +84,7 @@ impl<S, R: Record> RecordFile<S, R> {
         ensures within { result < length self.now.index }
         ensures starts { StartsAt self.now after result }
     {
-        if after < self.footer.first {
+        if after < self.indexed.footer().low {
             0
         } else {
             self.block_of(after)
@@ -103,26 +99,18 @@ impl<S, R: Record> RecordFile<S, R> {
         ensures order { result.first < result.end }
         ensures at { result.at < 2 ^ 62 }
     {
-        let handle = self.index[number];
-        let end = match self.index.get(number + 1) {
+        let handles = self.indexed.handles();
+        let handle = &handles[number];
+        let end = match handles.get(number + 1) {
             Some(next) => next.first,
-            None => self.footer.last + 1,
+            None => self.indexed.footer().high + 1,
         };
         Span {
-            file: self.file.id,
+            file: self.indexed.file().id,
             at: handle.at,
             len: handle.len,
             first: handle.first,
             end,
         }
     }
-}
-
-/// How many blocks begin with a number that is at most this one.
-fn blocks_up_to(index: &[BlockHandle], number: u64) -> usize
-    ensures bound { result ≤ length index.now }
-    ensures point { IsNonDecreasingBy (λ (e : BlockHandle). e.first) index.now →
-        IsPartitionPoint (λ (e : BlockHandle). e.first ≤ number) (λ (e : BlockHandle). number < e.first) index.now result }
-{
-    index.partition_point(|handle| handle.first <= number)
 }

@@ -11,7 +11,7 @@ use std::alloc::{AllocError, Global};
 
 impl Record for Item {
     ghost use Rattle.mg_records.specs.ItemRecord.{item_kind};
-    ghost use Rattle.mg_records.specs.ItemLaws.{item_lawful};
+    ghost use Rattle.mg_records.specs.ItemLaws.{item_framed, item_lawful};
 
     ghost kind = { item_kind };
 
@@ -46,4 +46,6 @@ impl Record for Item {
     }
 
     ghost lawful = { item_lawful };
+
+    ghost framed = { item_framed };
 }

@@ -5,8 +5,6 @@ mod block;
 mod contents;
 mod dead;
 mod file;
-mod footer;
-mod index;
 mod item;
 pub mod laws;
 mod lookup;
@@ -15,8 +13,6 @@ mod record;
 mod writer;
 
 pub use file::RecordFile;
-pub use footer::Footer;
-pub use index::BlockHandle;
 pub use record::Record;
 pub use writer::RecordWriter;
 

@@ -1,7 +1,7 @@
 //! Records of a file are found by their numbers.
 
 ghost use Rattle.std.specs.Prelude.{◌≡◌, ◌+◌, ◌-◌, ◌<◌, ◌≤◌, ◌≢◌, ◌⊎◌, List, [], length, sum_by, min, ◌^◌, filter, nat_lt, IfErr, IfOk, IfSome, IsOkAnd, IsSome, MatchResult, Ok, None};
-ghost use Rattle.mg_faults.specs.Causes.{HasCause};
+ghost use Rattle.mg_faults.specs.Causes.{CountsOnce, HasCause};
 ghost use Rattle.mg_frame.specs.Frame.{StandsAt};
 ghost use Rattle.mg_records.specs.BlockFor.{IsBlockFor};
 ghost use Rattle.mg_records.specs.File.{IsFile, record_of};
@@ -14,8 +14,8 @@ ghost use Rattle.mg_sealed.specs.Blocks.{block_body};
 
 use crate::block::{Span, find_in_block, scan_block};
 use crate::file::RecordFile;
-use crate::reading::FOOTER_LEN;
 use crate::record::Record;
+use mg_indexed::footer_len;
 use mg_sealed::{BLOCK_LIMIT, Block, Blocks, malformed};
 use mg_types::Fault;
 use std::alloc::Global;
@@ -32,13 +32,14 @@ impl<S: Drop, R: Record> RecordFile<S, R> {
     ) -> Result<Option<R>, Fault>
         ensures found { IsSome (F.Files.told self.now.file.file) → (records : List R) → Represents R.kind F.Files.told self.now records →
             MatchResult result (λ found. found ≡ record_of R.kind number records) (λ fault. IsOutside fault) }
-        ensures unread { (number < self.now.footer.first) ⊎ (self.now.footer.last < number) → (port.new ≡ port.old) × (result ≡ Ok None) }
-        ensures read { self.now.footer.first ≤ number → number ≤ self.now.footer.last →
+        ensures unread { (number < self.now.footer.low) ⊎ (self.now.footer.high < number) → (port.new ≡ port.old) × (result ≡ Ok None) }
+        ensures read { self.now.footer.low ≤ number → number ≤ self.now.footer.high →
             IfOk result (λ found. IfSome (F.Files.told self.now.file.file) (λ bytes. self.now.file.len ≡ length bytes → IsGot R.kind bytes self.now number found)) }
         ensures causes { IfErr result (λ fault. IfSome (F.Files.told self.now.file.file) (λ bytes. self.now.file.len ≡ length bytes →
             IsOutside fault ⊎ IsSoughtRefused R.kind bytes self.now number fault)) }
         ensures refusals { IfErr result (λ fault. IsOutside fault ⊎ IsBlockFault self.now.file.id self.now.index fault) }
         ensures cause { HasCause Fault.ReadFault (F.Files.faults port.old) (F.Files.faults port.new) result }
+        ensures once { CountsOnce (F.Files.faults port.old) (F.Files.faults port.new) result }
     {
         let mut buffer = Vec::new(alloc);
         self.get_with(alloc, port, number, &mut buffer)
@@ -54,15 +55,17 @@ impl<S: Drop, R: Record> RecordFile<S, R> {
     ) -> Result<Option<R>, Fault>
         ensures found { IsSome (F.Files.told self.now.file.file) → (records : List R) → Represents R.kind F.Files.told self.now records →
             MatchResult result (λ found. found ≡ record_of R.kind number records) (λ fault. IsOutside fault) }
-        ensures unread { (number < self.now.footer.first) ⊎ (self.now.footer.last < number) → (port.new ≡ port.old) × (result ≡ Ok None) }
-        ensures read { self.now.footer.first ≤ number → number ≤ self.now.footer.last →
+        ensures unread { (number < self.now.footer.low) ⊎ (self.now.footer.high < number) → (port.new ≡ port.old) × (result ≡ Ok None) }
+        ensures read { self.now.footer.low ≤ number → number ≤ self.now.footer.high →
             IfOk result (λ found. IfSome (F.Files.told self.now.file.file) (λ bytes. self.now.file.len ≡ length bytes → IsGot R.kind bytes self.now number found)) }
         ensures causes { IfErr result (λ fault. IfSome (F.Files.told self.now.file.file) (λ bytes. self.now.file.len ≡ length bytes →
             IsOutside fault ⊎ IsSoughtRefused R.kind bytes self.now number fault)) }
         ensures refusals { IfErr result (λ fault. IsOutside fault ⊎ IsBlockFault self.now.file.id self.now.index fault) }
         ensures cause { HasCause Fault.ReadFault (F.Files.faults port.old) (F.Files.faults port.new) result }
+        ensures once { CountsOnce (F.Files.faults port.old) (F.Files.faults port.new) result }
     {
-        if number < self.footer.first || number > self.footer.last {
+        let footer = self.indexed.footer();
+        if number < footer.low || number > footer.high {
             return Ok(None);
         }
         let block = self.block_of(number);
@@ -85,11 +88,13 @@ impl<S: Drop, R: Record> RecordFile<S, R> {
     ) -> Result<Option<Block>, Fault>
         ensures found { IsSome (F.Files.told self.now.file.file) → (records : List R) → Represents R.kind F.Files.told self.now records →
             MatchResult result (λ found. IsBlockFor R.kind number records found) (λ fault. IsOutside fault) }
-        ensures unread { (number < self.now.footer.first) ⊎ (self.now.footer.last < number) → (port.new ≡ port.old) × (result ≡ Ok None) }
+        ensures unread { (number < self.now.footer.low) ⊎ (self.now.footer.high < number) → (port.new ≡ port.old) × (result ≡ Ok None) }
         ensures refusals { IfErr result (λ fault. IsOutside fault ⊎ IsBlockFault self.now.file.id self.now.index fault) }
         ensures cause { HasCause Fault.ReadFault (F.Files.faults port.old) (F.Files.faults port.new) result }
+        ensures once { CountsOnce (F.Files.faults port.old) (F.Files.faults port.new) result }
     {
-        if number < self.footer.first || number > self.footer.last {
+        let footer = self.indexed.footer();
+        if number < footer.low || number > footer.high {
             return Ok(None);
         }
         let block = self.block_of(number);
@@ -109,26 +114,28 @@ impl<S: Drop, R: Record> RecordFile<S, R> {
     ) -> Result<Vec<R>, Fault>
         ensures scanned { IsSome (F.Files.told self.now.file.file) → (records : List R) → Represents R.kind F.Files.told self.now records →
             MatchResult result (λ found. found.items ≡ filter (λ it. nat_lt after (R.kind.seq it)) records) (λ fault. IsOutside fault) }
-        ensures unread { self.now.footer.last ≤ after → (port.new ≡ port.old) × IsOkAnd result (λ found. found.items ≡ []) }
-        ensures whole { after < self.now.footer.first → IfOk result (λ found. IfSome (F.Files.told self.now.file.file) (λ bytes.
-            IsRead bytes self.now → IsFile R.kind bytes found.items)) }
-        ensures read { after < self.now.footer.last → IfOk result (λ found. IfSome (F.Files.told self.now.file.file) (λ bytes.
+        ensures unread { self.now.footer.high ≤ after → (port.new ≡ port.old) × IsOkAnd result (λ found. found.items ≡ []) }
+        ensures whole { after < self.now.footer.low → IfOk result (λ found. IfSome (F.Files.told self.now.file.file) (λ bytes.
+            IsRead R.BlockItem.form bytes self.now → IsFile R.kind bytes found.items)) }
+        ensures read { after < self.now.footer.high → IfOk result (λ found. IfSome (F.Files.told self.now.file.file) (λ bytes.
             self.now.file.len ≡ length bytes → IsListed R.kind bytes self.now after found.items)) }
         ensures causes { IfErr result (λ fault. IfSome (F.Files.told self.now.file.file) (λ bytes. self.now.file.len ≡ length bytes →
             IsOutside fault ⊎ IsScanRefused R.kind bytes self.now after fault)) }
         ensures refusals { IfErr result (λ fault. IsOutside fault ⊎ IsBlockFault self.now.file.id self.now.index fault
             ⊎ (fault ≡ Fault.Malformed self.now.file.id (self.now.file.len - 65))) }
         ensures cause { HasCause Fault.ReadFault (F.Files.faults port.old) (F.Files.faults port.new) result }
+        ensures once { CountsOnce (F.Files.faults port.old) (F.Files.faults port.new) result }
     {
         let mut records = Vec::new(alloc);
-        if after >= self.footer.last {
+        let footer = self.indexed.footer();
+        if after >= footer.high {
             return Ok(records);
         }
         let mut before = BLOCK_LIMIT;
         let mut last = 0;
         let mut buffer = Vec::new(alloc);
         let start = self.start(after);
-        for block in start..self.index.len() {
+        for block in start..self.indexed.handles().len() {
             let span = self.span(block);
             let frame = self.read_span(alloc, port, block, &span, buffer)?;
             last = scan_block(alloc, &span, before, frame.body(), after, &mut records)?;
@@ -147,13 +154,13 @@ impl<S: Drop, R: Record> RecordFile<S, R> {
         ensures told { IfOk result (λ _. HasTotals self.now after last count sum) }
         ensures refusals { IfErr result (λ fault. (fault ≡ Fault.Malformed self.now.file.id (self.now.file.len - 65)) × (HasTotals self.now after last count sum → ⊥)) }
     {
-        let whole = after < self.footer.first;
-        if last == self.footer.last
-            && (!whole || (count == self.footer.records && sum == self.footer.sum))
-        {
+        let footer = self.indexed.footer();
+        let whole = after < footer.low;
+        if last == footer.high && (!whole || (count == footer.count && sum == footer.sum)) {
             return Ok(());
         }
-        Err(malformed(self.file.id, self.file.len.saturating_sub(FOOTER_LEN)))
+        let file = self.indexed.file();
+        Err(malformed(file.id, file.len.saturating_sub(footer_len(false))))
     }
 
     /// The block of this number, from 0 on. One of another length than the index says is malformed.
@@ -176,8 +183,16 @@ impl<S: Drop, R: Record> RecordFile<S, R> {
         ensures len { IfOk result (λ body. length body + 20 ≡ span.now.len) }
         ensures refusals { IfErr result (λ fault. IsOutside fault ⊎ IsBlockFault self.now.file.id self.now.index fault) }
         ensures cause { HasCause Fault.ReadFault (F.Files.faults port.old) (F.Files.faults port.new) result }
+        ensures once { CountsOnce (F.Files.faults port.old) (F.Files.faults port.new) result }
     {
-        port.block(alloc, &self.file, span.at, span.len, number as u64, buffer)
+        port.block(
+            alloc,
+            self.indexed.file(),
+            span.at,
+            span.len,
+            number as u64,
+            buffer,
+        )
     }
 }
 

@@ -1,13 +1,15 @@
 //! What may stand in a sealed file of numbered records.
 
 ghost use Rattle.std.specs.Prelude.{◌≡◌, ◌++◌, ◌↔◌, List, length, take, IfOk, IsTrue, OnOk};
+ghost use Rattle.mg_records.specs.Framed.{IsFramed};
 ghost use Rattle.mg_records.specs.Record.{Kind, IsContents, IsLawful, IsTaken, Measures};
 
+use mg_indexed::BlockItem;
 use std::alloc::{AllocError, Global};
 
 /// A kind of numbered record. In a block a record is its number in 8 bytes, which this crate reads and writes, and then its
 /// contents, which the kind does.
-pub trait Record: Drop {
+pub trait Record: BlockItem + Drop {
     /// All that contracts say of the kind: number, size and contents of a record, and which contents may stand in a file.
     ghost kind: { Kind Self };
 
@@ -44,4 +46,6 @@ pub trait Record: Drop {
         ensures { IfOk result (λ it. IsTaken kind seq contents.now it) };
 
     ghost lawful: { IsLawful kind };
+
+    ghost framed: { IsFramed kind Self.BlockItem.form };
 }

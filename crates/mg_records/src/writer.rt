@@ -1,25 +1,24 @@
 //! A file of records in writing.
 
 ghost use Rattle.std.specs.Prelude.{◌≡◌, ◌≢◌, ℕ, ◌+◌, ◌*◌, ◌<◌, ◌≤◌, ◌^◌, ◌↔◌, ◌⊎◌, List, [], ◌∷◌, ◌++◌, length, take, IfOk, IfErr, OnOk, OnErr, IsTrue};
-ghost use Rattle.mg_faults.specs.Causes.{HasCause};
+ghost use Rattle.mg_faults.specs.Causes.{CountsOnce, HasCause};
 ghost use Rattle.mg_records.specs.Record.{IsRecord, record_bytes};
 ghost use Rattle.mg_records.specs.Writing.{HasRecords, IsClosing, IsFull, IsPut, MayFollow, Represents};
 ghost use Rattle.mg_sealed.specs.Answers.{IsUnwritten};
 ghost use Rattle.mg_sealed.specs.Writing.{HasFrames};
 
 use crate::file::RecordFile;
-use crate::footer::{Footer, put_footer};
-use crate::index::{BlockHandle, HANDLE_LEN, put_index};
 use crate::record::Record;
 use mg_disk::Files;
-use mg_frame::{FRAME_OVERHEAD, put_u64};
-use mg_sealed::{BLOCK_LIMIT, FrameWriter, append_frame, seal_frames, start_frames};
+use mg_frame::put_u64;
+use mg_indexed::{ClosedBlocks, Summary};
+use mg_sealed::BLOCK_LIMIT;
 use mg_types::{Fault, FileId, is_seq};
 use std::alloc::{AllocError, Global};
-use std::marker::{Model, PhantomData};
+use std::marker::Model;
 
-/// A file has at most so many blocks: the body of its index has at most 2^32 - 1 bytes.
-const MOST_BLOCKS: usize = 214_748_364;
+/// The body of an index has at most so many bytes.
+const MOST_INDEX_LEN: u64 = 4_294_967_295;
 
 /// A record's number takes so many bytes in a block.
 const NUMBER_LEN: usize = 8;
@@ -27,28 +26,26 @@ const NUMBER_LEN: usize = 8;
 /// A file of records of one kind in writing, which are put one after the other. It keeps the block in writing, in the memory of two
 /// of them, and the index. After an error other than `Worn` it is only dropped.
 #[derive(Drop)]
-pub struct RecordWriter<D, R> {
+pub struct RecordWriter<D, R: Record> {
     id: FileId,
-    frames: FrameWriter<D>,
-    index: Vec<BlockHandle>,
+    closed: ClosedBlocks<D, u64, R>,
     block: Vec<u8>,
     block_first: u64,
     records: u64,
     sum: u64,
     first: u64,
     last: u64,
-    kind: PhantomData<R>,
 }
 
-impl<D, R> Model for RecordWriter<D, R> {
+impl<D, R: Record> Model for RecordWriter<D, R> {
     ghost use Rattle.mg_records.specs.Writing.{Filing, IsBounded};
 
     ghost Value = { Filing D };
 
     ghost view = { λ w. record {
       id = w.id;
-      frames = w.frames;
-      index = w.index.items;
+      frames = w.closed.frames;
+      index = w.closed.index;
       block = w.block.items;
       block_first = w.block_first;
       records = w.records;
@@ -57,10 +54,10 @@ impl<D, R> Model for RecordWriter<D, R> {
       last = w.last;
     } };
 
-    ghost invariant = { λ w. IsBounded (record {
+    ghost invariant = { λ w. IsBounded R.kind (record {
       id = w.id;
-      frames = w.frames;
-      index = w.index.items;
+      frames = w.closed.frames;
+      index = w.closed.index;
       block = w.block.items;
       block_first = w.block_first;
       records = w.records;
@@ -82,18 +79,17 @@ impl<D: Drop, R: Record> RecordWriter<D, R> {
         ensures id { IfOk result (λ writer. writer.id ≡ id) }
         ensures outside { IfErr result (λ fault. IsUnwritten fault) }
         ensures cause { HasCause Fault.WriteFault (F.faults port.old) (F.faults port.new) result }
+        ensures once { CountsOnce (F.faults port.old) (F.faults port.new) result }
     {
         Ok(RecordWriter {
             id,
-            frames: start_frames(alloc, port)?,
-            index: Vec::new(alloc),
+            closed: ClosedBlocks::new(alloc, port)?,
             block: Vec::new(alloc),
             block_first: 0,
             records: 0,
             sum: 0,
             first: 0,
             last: 0,
-            kind: PhantomData,
         })
     }
 
@@ -131,14 +127,14 @@ impl<D: Drop, R: Record> RecordWriter<D, R> {
         ensures worn { (kept : ℕ) → IfErr result (λ fault. fault ≡ Fault.Worn kept → IsFull R.kind self.old it.now × (kept ≡ 20 * (length self.old.index + 1)) × (self.new ≡ self.old)) }
         ensures refusals { IfErr result (λ fault. IsUnwritten fault ⊎ (fault ≡ Fault.Worn (20 * (length self.old.index + 1)))) }
         ensures cause { HasCause Fault.WriteFault (F.faults port.old) (F.faults port.new) result }
+        ensures once { CountsOnce (F.faults port.old) (F.faults port.new) result }
     {
         let len = NUMBER_LEN + it.contents_len();
         if !self.block.is_empty() && self.block.len() + len > BLOCK_LIMIT {
-            let blocks = self.index.len() + 1;
-            if blocks >= MOST_BLOCKS {
-                return Err(Fault::Worn {
-                    kept: (HANDLE_LEN * blocks) as u64,
-                });
+            let more = RecordWriter::<D, R>::handle_len(self.block_first);
+            let kept = self.closed.index_len() + more;
+            if kept + more > MOST_INDEX_LEN {
+                return Err(Fault::Worn { kept });
             }
             self.close_block(alloc, port)?;
         }
@@ -158,43 +154,36 @@ impl<D: Drop, R: Record> RecordWriter<D, R> {
         ensures id { IfOk result (λ file. file.file.id ≡ self.id) }
         ensures outside { IfErr result (λ fault. IsUnwritten fault) }
         ensures cause { HasCause Fault.WriteFault (F.faults port.old) (F.faults port.new) result }
+        ensures once { CountsOnce (F.faults port.old) (F.faults port.new) result }
     {
         let RecordWriter {
             id,
-            mut frames,
-            mut index,
-            mut block,
+            mut closed,
+            block,
             block_first,
             records,
             sum,
             first,
             last,
-            kind,
         } = self;
         if !block.is_empty() {
-            put_block(alloc, port, &mut frames, &mut index, block_first, &block)?;
+            closed.close(alloc, port, block_first, &block)?;
         }
-        let footer = Footer {
-            records,
+        let summary = Summary {
+            count: records,
             sum,
-            first,
-            last,
-            index: frames.len(),
-            blocks: index.len() as u32,
+            low: first,
+            high: last,
         };
-        block.clear();
-        put_index(&index, &mut block)?;
-        append_frame(alloc, port, &mut frames, &block)?;
-        block.clear();
-        put_footer(&footer, &mut block)?;
-        append_frame(alloc, port, &mut frames, &block)?;
-        let file = seal_frames(alloc, port, frames, id)?;
-        Ok(RecordFile {
-            file,
-            footer,
-            index,
-            kind,
-        })
+        let indexed = closed.finish(alloc, port, id, &summary, &[])?;
+        Ok(RecordFile { indexed })
+    }
+
+    /// How many bytes a handle takes in the index, whatever its number.
+    fn handle_len(number: u64) -> u64
+        ensures { result ≡ 20 }
+    {
+        ClosedBlocks::<D, u64, R>::handle_len(&number)
     }
 
     /// Puts the block in writing into the file, and its handle into the index.
@@ -205,15 +194,10 @@ impl<D: Drop, R: Record> RecordWriter<D, R> {
         ensures id { self.new.id ≡ self.old.id }
         ensures outside { IfErr result (λ fault. IsUnwritten fault) }
         ensures cause { HasCause Fault.WriteFault (F.faults port.old) (F.faults port.new) result }
+        ensures once { CountsOnce (F.faults port.old) (F.faults port.new) result }
     {
-        put_block(
-            alloc,
-            port,
-            &mut self.frames,
-            &mut self.index,
-            self.block_first,
-            &self.block,
-        )?;
+        self.closed
+            .close(alloc, port, self.block_first, &self.block)?;
         self.block.clear();
         Ok(())
     }
@@ -253,37 +237,4 @@ fn put_into<R: Record>(it: &R, out: &mut Vec<u8>) -> Result<(), AllocError>
 {
     put_u64(it.seq(), out)?;
     it.put_contents(out)
-}
-
-/// Puts a block into the file, and a handle for it into the index.
-fn put_block<F: Files>(
-    alloc: Global,
-    port: &mut F,
-    frames: &mut FrameWriter<F::Draft>,
-    index: &mut Vec<BlockHandle>,
-    first: u64,
-    block: &[u8],
-) -> Result<(), Fault>
-    requires block { length block.now ≤ 2 ^ 21 }
-    requires room { frames.old.len ≤ 2 ^ 51 }
-    ensures frames { (bodies : List (List ℕ)) → HasFrames F.drafted frames.old bodies →
-        OnOk result (HasFrames F.drafted frames.new (bodies ++ block.now ∷ [])) }
-    ensures index { OnOk result (index.new.items ≡
-        index.old.items ++ record { first = first; at = frames.old.len; len = length block.now + 20 } ∷ []) }
-    ensures len { OnOk result (frames.new.len ≡ frames.old.len + length block.now + 20) }
-    ensures kept { OnErr result ((frames.new.len ≡ frames.old.len) × (index.new.items ≡ index.old.items)) }
-    ensures outside { IfErr result (λ fault. IsUnwritten fault) }
-    ensures cause { HasCause Fault.WriteFault (F.faults port.old) (F.faults port.new) result }
-{
-    let blocks = index.len();
-    index.push(BlockHandle {
-        first,
-        at: frames.len(),
-        len: block.len() as u32 + FRAME_OVERHEAD as u32,
-    })?;
-    if let Err(fault) = append_frame(alloc, port, frames, block) {
-        index.truncate(blocks);
-        return Err(fault);
-    }
-    Ok(())
 }

@@ -1,26 +1,26 @@
-use Rattle.std.proofs.Common.{◌≡◌, ◌+◌, ◌<◌, ◌≤◌, ◌∙◌, inl, inr, sym, ap, subst, arith}
+use Rattle.std.proofs.Common.{◌≡◌, ◌+◌, ◌<◌, ◌∙◌, sym, ap, subst, arith}
 use Rattle.std.proofs.lemmas.Grind.{common_steps}
-use Rattle.std.specs.List.Sorted.{IsPartitionPoint}
 use Rattle.mg_sealed.specs.Filling.{items_of}
+use Rattle.mg_indexed.specs.Index.{BeginUpTo}
+use Rattle.mg_indexed.specs.NumberKeys.{number_keys}
 use Rattle.mg_records.specs.File.{first_number, last_number, record_of}
 use Rattle.mg_records.specs.Writing.{Filed}
-use Rattle.mg_records.specs.declared.footer.Footer.{Footer}
-use Rattle.mg_records.specs.declared.index.BlockHandle.{BlockHandle}
+use Rattle.mg_indexed.specs.declared.footer.Footer.{Footer}
 use Rattle.mg_records.proofs.LookupLaws.{found_in, no_handle, none_above_last, none_below_first, outside_answer}
 use Rattle.mg_records.proofs.file.RecordFile.block_for.Goals as goal
-use Rattle.mg_records.proofs.file.RecordFile.block_for.Goals.{then-number-self-via-then-number-self, then-number-self-via-else-number-self+then-number-self-2}
+use Rattle.mg_records.proofs.file.RecordFile.block_for.Goals.{then-number-footer-via-then-number-footer, then-number-footer-via-else-number-footer+then-number-footer-2}
 
-pub returns-then-number-self-clause-found : goal.returns-then-number-self-clause-found
-returns-then-number-self-clause-found g c = λ some records holds.
+pub returns-then-number-footer-clause-found : goal.returns-then-number-footer-clause-found
+returns-then-number-footer-clause-found g c = λ some records holds.
     let kind = g.R.Record.kind in
     let number = c.args.number in
     let items = items_of holds.blocks in
-    elim c.then-number-self.branch [
-      | then-number-self-via-then-number-self w ↦
-          (let below : number < first_number kind items = omega (arith, w.if-number-self.true, ap (λ (f : Filed g.row.S.Denot). f.footer.first) c.self.view_is, ap (λ (f : Footer). f.first) holds.footer) in
+    elim c.then-number-footer.branch [
+      | then-number-footer-via-then-number-footer w ↦
+          (let below : number < first_number kind items = omega (arith, w.if-number-footer.true, ap (λ (f : Footer). f.low) c.footer-footer.ensures.footer, ap (λ (f : Filed g.row.S.Denot). f.footer.low) c.self.view_is, ap (λ (f : Footer). f.low) holds.footer) in
           (ap (record_of kind number) (sym holds.all) ∙ none_below_first kind number items holds.are.rise below))
-      | then-number-self-via-else-number-self+then-number-self-2 w ↦
-          (let above : last_number kind items < number = omega (arith, w.if-number-self-2.true, ap (λ (f : Filed g.row.S.Denot). f.footer.last) c.self.view_is, ap (λ (f : Footer). f.last) holds.footer) in
+      | then-number-footer-via-else-number-footer+then-number-footer-2 w ↦
+          (let above : last_number kind items < number = omega (arith, w.if-number-footer-2.true, ap (λ (f : Footer). f.high) c.footer-footer.ensures.footer, ap (λ (f : Filed g.row.S.Denot). f.footer.high) c.self.view_is, ap (λ (f : Footer). f.high) holds.footer) in
           (ap (record_of kind number) (sym holds.all) ∙ none_above_last kind number items holds.are.rise above))
     ]
 
@@ -35,7 +35,7 @@ returns-clause-found g c = λ some records holds.
     let blocks = holds.blocks in
     let block = c.block_of-block.result in
     let b = c.in_ok-frame.ensures.read some records holds in
-    let point = subst (λ es. IsPartitionPoint (λ (e : BlockHandle). e.first ≤ number) (λ (e : BlockHandle). number < e.first) es (block + 1)) holds.index c.block_of-block.ensures.point in
+    let point = subst (λ es. BeginUpTo number_keys es number (block + 1)) holds.index c.block_of-block.ensures.point in
     let same : record_of kind number b.block ≡ record_of kind number records =
     sym (found_in kind blocks holds.are number (block + 1) no_handle b.before b.block b.later point b.all (omega (arith, b.many))) ∙ ap (record_of kind number) holds.all in
     (b.block, b.spelling, same)

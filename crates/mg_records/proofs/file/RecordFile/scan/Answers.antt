@@ -9,7 +9,7 @@ use Rattle.mg_records.specs.Lookup.{AreTotals, IsBlock, IsBlockFault, IsBodyRefu
 use Rattle.mg_records.specs.File.{last_number}
 use Rattle.mg_records.specs.Reading.{IsKept}
 use Rattle.mg_records.specs.Writing.{Filed}
-use Rattle.mg_records.specs.declared.footer.Footer.{Footer}
+use Rattle.mg_indexed.specs.declared.footer.Footer.{Footer}
 use Rattle.mg_records.proofs.HandleLaws.{first_most}
 use Rattle.mg_records.proofs.FileLaws.{length-index_from}
 use Rattle.mg_records.proofs.ListingLaws.{IsListedUpTo, WasListed, listed_all, listed_before, listed_none, listed_on, scan_refused, totals_refused, totals_are, totals_of, whole_scan}
@@ -17,22 +17,22 @@ use Rattle.mg_records.proofs.LookupLaws.{body_refused, follows_behind, frame_ref
 use Rattle.mg_records.proofs.ScanLaws.{block_not_refused, scanned_last, scanned_right}
 use Rattle.mg_records.proofs.file.RecordFile.scan.Goals as goal
 
-pub returns-then-after-self-clause-scanned : goal.returns-then-after-self-clause-scanned
-returns-then-after-self-clause-scanned g c = λ some records holds.
+pub returns-then-after-footer-clause-scanned : goal.returns-then-after-footer-clause-scanned
+returns-then-after-footer-clause-scanned g c = λ some records holds.
     let kind = g.R.Record.kind in
     let after = c.args.after in
     let items = items_of holds.blocks in
     let none : c.new-records.result.items ≡ [] = c.new-records.ensures.items in
-    let under : last_number kind items ≤ after = omega (arith, c.if-after-self.true, ap (λ (f : Filed g.row.S.Denot). f.footer.last) c.self.view_is, ap (λ (f : Footer). f.last) holds.footer) in
+    let under : last_number kind items ≤ after = omega (arith, c.if-after-footer.true, ap (λ (f : Footer). f.high) c.footer-footer.ensures.footer, ap (λ (f : Filed g.row.S.Denot). f.footer.high) c.self.view_is, ap (λ (f : Footer). f.high) holds.footer) in
     none ∙ sym (ap (filter (λ it. nat_lt after (kind.seq it))) (sym holds.all) ∙ none_over_last kind after items holds.are.rise under)
 
-pub returns-then-after-self-clause-whole : goal.returns-then-after-self-clause-whole
-returns-then-after-self-clause-whole g c = λ below.
-    absurd (omega (arith, below, c.if-after-self.true, first_most _ _ c.self.invariant, ap (λ (f : Filed g.row.S.Denot). f.footer.first) c.self.view_is))
+pub returns-then-after-footer-clause-whole : goal.returns-then-after-footer-clause-whole
+returns-then-after-footer-clause-whole g c = λ below.
+    absurd (omega (arith, below, c.if-after-footer.true, ap (λ (f : Footer). f.high) c.footer-footer.ensures.footer, first_most g.R.BlockItem.form _ _ c.self.invariant, ap (λ (f : Filed g.row.S.Denot). f.footer.low) c.self.view_is))
 
 pub loop-block-init : goal.loop-block-init
 loop-block-init g c = (
-  omega arith,
+  (refl, g.met.F.Files.bounded c.args.port.now),
   λ some all holds. (
     ap (λ xs. xs ++ filter (λ it. nat_lt c.args.after (g.R.Record.kind.seq it)) (items_of (drop c.start-start.result holds.blocks))) c.new-records.ensures.items
         ∙ scan_starts g.R.Record.kind g.F.Files.told c.args.self.now all holds c.args.after c.start-start.result c.start-start.ensures.within c.start-start.ensures.starts,
@@ -114,7 +114,7 @@ returns-in_err-last-clause-refusals g c =
 
 pub loop-block-preserved : goal.loop-block-preserved
 loop-block-preserved g c = (
-  omega (arith, c.loop-block.invariant.0, c.in_ok-frame.ensures.cause.later),
+  (c.in_ok-frame.ensures.once.kept ∙ c.loop-block.invariant.0.0, c.loop-block.invariant.0.1),
   λ some all holds.
       let kind = g.R.Record.kind in
       let after = c.args.after in
@@ -152,10 +152,10 @@ returns-in_err-check_totals-clause-scanned g c = λ some records holds.
     let h = c.loop-block.invariant.1 some records holds in
     let found = scan_ends kind holds.blocks after block records c.loop-block.records.items past h.0 in
     let totals = right_totals kind g.F.Files.told filed records holds after c.start-start.result block c.loop-block.records.items c.loop-block.before c.loop-block.last c.start-start.ensures.within ends found h.1 in
-    let kept = subst (λ (f : Filed g.row.S.Denot). IsKept f.footer f.index) c.self.view_is c.self.invariant in
+    let kept = subst (λ (f : Filed g.row.S.Denot). IsKept g.R.BlockItem.form f.footer f.index) c.self.view_is c.self.invariant in
     let counted : c.len-count.result ≡ length c.loop-block.records.items = grind (arith, common_steps) in
     let summed = c.sum_of_sizes-sum.ensures ∙ ap (λ xs. min (sum_by kind.size xs) (2 ^ 64 - 1)) c.deref.ensures.value in
-    absurd (c.in_err-check_totals.ensures.refusals.1 (totals_of kind filed after c.loop-block.last _ _ c.loop-block.records.items kept.is_footer.sum counted summed totals))
+    absurd (c.in_err-check_totals.ensures.refusals.1 (totals_of kind filed after c.loop-block.last _ _ c.loop-block.records.items kept.whole.is_footer.sum counted summed totals))
 
 pub returns-in_err-check_totals-clause-causes : goal.returns-in_err-check_totals-clause-causes
 returns-in_err-check_totals-clause-causes g c =
@@ -165,13 +165,13 @@ returns-in_err-check_totals-clause-causes g c =
     let told = g.F.Files.told filed.file.file in
     let block = c.loop-block.block in
     let ends : block ≡ length filed.index = grind (arith, common_steps) in
-    let kept = subst (λ (f : Filed g.row.S.Denot). IsKept f.footer f.index) c.self.view_is c.self.invariant in
+    let kept = subst (λ (f : Filed g.row.S.Denot). IsKept g.R.BlockItem.form f.footer f.index) c.self.view_is c.self.invariant in
     let fault = c.in_err-check_totals.field-0.0 in
     let counted : c.len-count.result ≡ length c.loop-block.records.items = grind (arith, common_steps) in
     let summed = c.sum_of_sizes-sum.ensures ∙ ap (λ xs. min (sum_by kind.size xs) (2 ^ 64 - 1)) c.deref.ensures.value in
-    let none : AreTotals kind filed after c.loop-block.last c.loop-block.records.items → ⊥ = λ totals. c.in_err-check_totals.ensures.refusals.1 (totals_of kind filed after c.loop-block.last _ _ c.loop-block.records.items kept.is_footer.sum counted summed totals) in
+    let none : AreTotals kind filed after c.loop-block.last c.loop-block.records.items → ⊥ = λ totals. c.in_err-check_totals.ensures.refusals.1 (totals_of kind filed after c.loop-block.last _ _ c.loop-block.records.items kept.whole.is_footer.sum counted summed totals) in
     err_is c.from_residual-in_err-check_totals.result fault (λ fault. IfSome told (λ bytes. filed.file.len ≡ length bytes → IsOutside fault ⊎ IsScanRefused kind bytes filed after fault)) (grind (arith, common_steps))
-    (totals_refused kind told filed after c.start-start.result block c.loop-block.records.items c.loop-block.before c.loop-block.last fault kept c.start-start.ensures.within ends c.start-start.ensures.starts
+    (totals_refused kind g.R.BlockItem.form told filed after c.start-start.result block c.loop-block.records.items c.loop-block.before c.loop-block.last fault kept c.start-start.ensures.within ends c.start-start.ensures.starts
     c.in_err-check_totals.ensures.refusals.0 none c.loop-block.invariant.2)
 
 pub returns-clause-scanned : goal.returns-clause-scanned
@@ -199,10 +199,10 @@ returns-clause-whole g c = λ below.
     let told = g.F.Files.told filed.file.file in
     let block = c.loop-block.block in
     let ends : block ≡ length filed.index = grind (arith, common_steps) in
-    let kept = subst (λ (f : Filed g.row.S.Denot). IsKept f.footer f.index) c.self.view_is c.self.invariant in
+    let kept = subst (λ (f : Filed g.row.S.Denot). IsKept g.R.BlockItem.form f.footer f.index) c.self.view_is c.self.invariant in
     let counted : c.len-count.result ≡ length c.loop-block.records.items = grind (arith, common_steps) in
     let summed = c.sum_of_sizes-sum.ensures ∙ ap (λ xs. min (sum_by kind.size xs) (2 ^ 64 - 1)) c.deref.ensures.value in
-    let totals = totals_are kind filed after c.loop-block.last _ _ c.loop-block.records.items kept.is_footer.sum counted summed c.in_ok-check_totals.ensures.told in
-    whole_scan kind told filed after c.loop-block.last c.loop-block.records.items kept below totals
+    let totals = totals_are kind filed after c.loop-block.last _ _ c.loop-block.records.items kept.whole.is_footer.sum counted summed c.in_ok-check_totals.ensures.told in
+    whole_scan kind g.R.BlockItem.form told filed after c.loop-block.last c.loop-block.records.items kept below totals
     (listed_all kind told filed after c.start-start.result block c.loop-block.records.items c.loop-block.before c.loop-block.last c.start-start.ensures.within ends
     c.start-start.ensures.starts totals.0 c.loop-block.invariant.2)

@@ -1,72 +1,85 @@
-use Rattle.std.proofs.Common.{◌≡◌, ◌≢◌, ◌<◌, ◌≤◌, ◌+◌, [], ◌∷◌, ◌++◌, length, List, ℕ, sym, ap, ◌∙◌, subst, arith}
+use Rattle.std.proofs.Common.{◌≡◌, ◌≢◌, ◌<◌, ◌+◌, [], ◌∷◌, ◌++◌, length, List, ℕ, sym, ap, ◌∙◌, subst, arith}
 use Rattle.std.proofs.lemmas.Grind.{common_steps}
-use Rattle.mg_records.specs.File.{index_bytes, footer_bytes}
-use Rattle.mg_records.specs.Writing.{Filing, HasRecords}
+use Rattle.std.proofs.lemmas.List.{length-append}
+use Rattle.mg_frame.proofs.BigEndianLaws.{length-big_endian}
 use Rattle.mg_sealed.specs.Writing.{HasFrames}
-use Rattle.mg_records.specs.declared.footer.Footer.{Footer}
-use Rattle.mg_records.proofs.FileLaws.{length-index_bytes, length-footer_bytes}
-use Rattle.mg_records.proofs.WriterLaws.{IsSealed, finished, footer_at, item_of, kept_closed, kept_open, some_in_writing}
+use Rattle.mg_indexed.specs.Forms.{IsFrameLength}
+use Rattle.mg_indexed.specs.Writing.{Closed}
+use Rattle.mg_indexed.specs.declared.footer.Footer.{Footer}
+use Rattle.mg_records.specs.Writing.{Filing, HasRecords}
+use Rattle.mg_records.proofs.FileLaws.{length-index_bytes}
+use Rattle.mg_records.proofs.WriterLaws.{agrees_closed, agrees_open, finished, is_summary, item_of, open_frame, some_in_writing}
 use Rattle.mg_records.proofs.writer.RecordWriter.finish.Goals as goal
-use Rattle.mg_records.proofs.writer.RecordWriter.finish.Goals.{then-not-is_empty+in_ok-put_block, else-not-is_empty}
+use Rattle.mg_records.proofs.writer.RecordWriter.finish.Goals.{then-not-is_empty+in_ok-close, else-not-is_empty}
 
-pub append_frame-requires-clause-body : goal.append_frame-requires-clause-body
-append_frame-requires-clause-body g c =
-    let handles = c.if-not-is_empty.index.items in
-    let body : c.deref-3.result.now ≡ index_bytes handles = grind (arith, common_steps) in
+pub close-requires-clause-room : goal.close-requires-clause-room
+close-requires-clause-room g c =
     let inside = c.self.inside in
-    let few : length handles ≤ length inside.index.items + 1 = elim c.if-not-is_empty.branch [
-      | then-not-is_empty+in_ok-put_block w ↦ grind (arith, common_steps)
-      | else-not-is_empty w ↦ grind (arith, common_steps)
-    ] in
-    omega (arith, ap length body, length-index_bytes handles, c.self.invariant.blocks, few)
+    omega (arith, c.self.invariant.blocks, length-index_bytes inside.closed.index, length-big_endian 8 inside.block_first)
 
-pub append_frame-requires-clause-room : goal.append_frame-requires-clause-room
-append_frame-requires-clause-room g c =
-    let handles = c.if-not-is_empty.index.items in
-    let body : c.deref-3.result.now ≡ index_bytes handles = grind (arith, common_steps) in
+pub close-requires-clause-body : goal.close-requires-clause-body
+close-requires-clause-body g c =
+    let form = g.R.BlockItem.form in
     let inside = c.self.inside in
-    let few : length handles ≤ length inside.index.items + 1 = elim c.if-not-is_empty.branch [
-      | then-not-is_empty+in_ok-put_block w ↦ grind (arith, common_steps)
-      | else-not-is_empty w ↦ grind (arith, common_steps)
-    ] in
-    let near : c.if-not-is_empty.frames.len ≤ inside.frames.len + length inside.block.items + 20 = elim c.if-not-is_empty.branch [
-      | then-not-is_empty+in_ok-put_block w ↦ grind (arith, common_steps)
-      | else-not-is_empty w ↦ grind (arith, common_steps)
-    ] in
-    omega (arith, ap length body, length-index_bytes handles, c.self.invariant.blocks, c.self.invariant.block, c.self.invariant.offset, few, near)
+    let some : inside.block.items ≢ [] = λ e. grind (arith, common_steps, e) in
+    subst (λ (b : List ℕ). IsFrameLength form (length b + 20)) (sym c.deref.ensures.value) (open_frame g.R.Record.kind form g.met.R.Record.framed inside.block.items c.self.invariant.writing some)
 
-pub append_frame-requires-2-clause-body : goal.append_frame-requires-2-clause-body
-append_frame-requires-2-clause-body g c =
-    let inside = c.self.inside in
-    let footer : Footer = record { records = inside.records; sum = inside.sum; first = inside.first; last = inside.last; index = c.len.result; blocks = c.len-2.result } in
-    let body : c.deref-4.result.now ≡ footer_bytes footer = grind (arith, common_steps) in
-    omega (arith, ap length body, length-footer_bytes footer)
+pub close-requires-clause-follows : goal.close-requires-clause-follows
+close-requires-clause-follows g c =
+    let some : c.self.inside.block.items ≢ [] = λ e. grind (arith, common_steps, e) in
+    let begins = c.self.invariant.begins some in
+    (omega (arith, begins.1, c.self.invariant.last), begins.0)
 
-pub append_frame-requires-2-clause-room : goal.append_frame-requires-2-clause-room
-append_frame-requires-2-clause-room g c =
+pub finish-requires-clause-some : goal.finish-requires-clause-some
+finish-requires-clause-some g c = λ none.
     let inside = c.self.inside in
-    let footer : Footer = record { records = inside.records; sum = inside.sum; first = inside.first; last = inside.last; index = c.len.result; blocks = c.len-2.result } in
-    let body : c.deref-4.result.now ≡ footer_bytes footer = grind (arith, common_steps) in
-    let handles = c.if-not-is_empty.index.items in
-    let index : c.deref-3.result.now ≡ index_bytes handles = grind (arith, common_steps) in
-    let few : length handles ≤ length inside.index.items + 1 = elim c.if-not-is_empty.branch [
-      | then-not-is_empty+in_ok-put_block w ↦ grind (arith, common_steps)
-      | else-not-is_empty w ↦ grind (arith, common_steps)
-    ] in
-    let near : c.if-not-is_empty.frames.len ≤ inside.frames.len + length inside.block.items + 20 = elim c.if-not-is_empty.branch [
-      | then-not-is_empty+in_ok-put_block w ↦ grind (arith, common_steps)
-      | else-not-is_empty w ↦ grind (arith, common_steps)
-    ] in
-    omega (arith, ap length body, length-footer_bytes footer, ap length index, length-index_bytes handles, c.self.invariant.blocks, c.self.invariant.block, c.self.invariant.offset, few, near, c.in_ok-append_frame.ensures.len)
+    let w : Filing g.row.D.Denot = record {
+      id = inside.id;
+      frames = inside.closed.frames;
+      index = inside.closed.index;
+      block = inside.block.items;
+      block_first = inside.block_first;
+      records = inside.records;
+      sum = inside.sum;
+      first = inside.first;
+      last = inside.last;
+    } in
+    let some : 0 < inside.records = omega (arith, c.requires, ap (λ (v : Filing g.row.D.Denot). v.records) c.self.view_is) in
+    elim c.if-not-is_empty.branch [
+      | then-not-is_empty+in_ok-close b ↦
+          (let is : c.if-not-is_empty.closed.index ≡ inside.closed.index ++ item_of w ∷ [] = grind (arith, common_steps) in
+          omega (arith, ap length none, ap length is, length-append inside.closed.index (item_of w ∷ [])))
+      | else-not-is_empty b ↦
+          (let empty : inside.block.items ≡ [] = grind (arith, common_steps) in
+          let is : c.if-not-is_empty.closed.index ≡ inside.closed.index = grind (arith, common_steps) in
+          omega (arith, some, c.self.invariant.counted, ap length none, ap length is, ap length empty))
+    ]
+
+pub finish-requires-clause-summary : goal.finish-requires-clause-summary
+finish-requires-clause-summary g c =
+    let inside = c.self.inside in
+    let w : Filing g.row.D.Denot = record {
+      id = inside.id;
+      frames = inside.closed.frames;
+      index = inside.closed.index;
+      block = inside.block.items;
+      block_first = inside.block_first;
+      records = inside.records;
+      sum = inside.sum;
+      first = inside.first;
+      last = inside.last;
+    } in
+    let some : 0 < inside.records = omega (arith, c.requires, ap (λ (v : Filing g.row.D.Denot). v.records) c.self.view_is) in
+    is_summary g.R.Record.kind w c.self.invariant some
 
 pub invariant_of-result : goal.invariant_of-result
 invariant_of-result g c =
+    let kind = g.R.Record.kind in
     let inside = c.self.inside in
-    let handles = c.if-not-is_empty.index.items in
     let w : Filing g.row.D.Denot = record {
       id = inside.id;
-      frames = inside.frames;
-      index = inside.index.items;
+      frames = inside.closed.frames;
+      index = inside.closed.index;
       block = inside.block.items;
       block_first = inside.block_first;
       records = inside.records;
@@ -74,33 +87,35 @@ invariant_of-result g c =
       first = inside.first;
       last = inside.last;
     } in
+    let filed = c.in_ok-indexed.indexed in
     let some : 0 < inside.records = omega (arith, c.requires, ap (λ (v : Filing g.row.D.Denot). v.records) c.self.view_is) in
-    let count : c.len-2.result ≡ length handles = grind (arith, common_steps) in
-    elim c.if-not-is_empty.branch [
-      | then-not-is_empty+in_ok-put_block b ↦
-          (let more : inside.block.items ≢ [] = λ e. grind (arith, common_steps, e) in
-          let block : b.deref.result.now ≡ inside.block.items = b.deref.ensures.value in
-          let is : handles ≡ inside.index.items ++ item_of w ∷ [] = grind (arith, common_steps) in
-          let offset : c.len.result ≡ inside.frames.len + length inside.block.items + 20 = grind (arith, common_steps) in
-          kept_closed w handles c.len.result c.len-2.result c.self.invariant some more is offset count)
-      | else-not-is_empty b ↦
-          (let none : inside.block.items ≡ [] = grind (arith, common_steps) in
-          let is : handles ≡ inside.index.items = grind (arith, common_steps) in
-          let offset : c.len.result ≡ inside.frames.len = grind (arith, common_steps) in
-          kept_open w handles c.len.result c.len-2.result c.self.invariant some none is offset count)
-    ]
+    let low : filed.footer.low ≡ w.first = ap (λ (f : Footer). f.low) c.in_ok-indexed.ensures.footer in
+    let high : filed.footer.high ≡ w.last = ap (λ (f : Footer). f.high) c.in_ok-indexed.ensures.footer in
+    record {
+      whole = c.in_ok-indexed.ensures.kept;
+      agrees = elim c.if-not-is_empty.branch [
+        | then-not-is_empty+in_ok-close b ↦
+            (let more : inside.block.items ≢ [] = λ e. grind (arith, common_steps, e) in
+            let is : c.if-not-is_empty.closed.index ≡ inside.closed.index ++ item_of w ∷ [] = grind (arith, common_steps) in
+            agrees_closed kind w filed.footer filed.index c.self.invariant more (c.in_ok-indexed.ensures.index ∙ is) low high)
+        | else-not-is_empty b ↦
+            (let none : inside.block.items ≡ [] = grind (arith, common_steps) in
+            let is : c.if-not-is_empty.closed.index ≡ inside.closed.index = grind (arith, common_steps) in
+            agrees_open kind w filed.footer filed.index c.self.invariant some none (c.in_ok-indexed.ensures.index ∙ is) low high)
+      ];
+    }
 
 pub returns-clause-represents : goal.returns-clause-represents
-returns-clause-represents g c =
-    let inside = c.self.inside in
+returns-clause-represents g c = λ records has.
     let kind = g.R.Record.kind in
+    let form = g.R.BlockItem.form in
     let drafted = g.F.Files.drafted in
     let told = g.F.Files.told in
-    let handles = c.if-not-is_empty.index.items in
+    let inside = c.self.inside in
     let w : Filing g.row.D.Denot = record {
       id = inside.id;
-      frames = inside.frames;
-      index = inside.index.items;
+      frames = inside.closed.frames;
+      index = inside.closed.index;
       block = inside.block.items;
       block_first = inside.block_first;
       records = inside.records;
@@ -108,30 +123,20 @@ returns-clause-represents g c =
       first = inside.first;
       last = inside.last;
     } in
-    let footer = footer_at w c.len.result c.len-2.result in
-    let index : c.deref-3.result.now ≡ index_bytes handles = grind (arith, common_steps) in
-    let body : c.deref-4.result.now ≡ footer_bytes footer = grind (arith, common_steps) in
-    let count : c.len-2.result ≡ length handles = grind (arith, common_steps) in
+    let filed = c.in_ok-indexed.indexed in
+    let closed = c.if-not-is_empty.closed in
     let some : 0 < inside.records = omega (arith, c.requires, ap (λ (v : Filing g.row.D.Denot). v.records) c.self.view_is) in
-    λ records has.
     let has' = subst (λ v. HasRecords kind drafted v records) (sym c.self.view_is) has in
     elim c.if-not-is_empty.branch [
-      | then-not-is_empty+in_ok-put_block b ↦
-          (let block : b.deref.result.now ≡ inside.block.items = b.deref.ensures.value in
-          let is : handles ≡ inside.index.items ++ item_of w ∷ [] = grind (arith, common_steps) in
-          let offset : c.len.result ≡ inside.frames.len + length inside.block.items + 20 = grind (arith, common_steps) in
-          finished kind drafted told w handles c.len.result c.len-2.result c.in_ok-file.file records has' some c.self.invariant.blocks is offset count
+      | then-not-is_empty+in_ok-close b ↦
+          (let is : closed.index ≡ inside.closed.index ++ item_of w ∷ [] = grind (arith, common_steps) in
+          let long : closed.frames.len ≡ inside.closed.frames.len + length inside.block.items + 20 = grind (arith, common_steps) in
+          finished kind form g.met.R.Record.framed.unfiltered drafted told w closed filed records has' some c.self.invariant.blocks is long
           (λ bodies framed.
-          let one = b.in_ok-put_block.ensures.frames bodies framed in
-          let one' = subst (λ f. HasFrames drafted f (bodies ++ b.deref.result.now ∷ [])) (sym b.frames-is) one in
-          let two = c.in_ok-append_frame.ensures.frames _ one' in
-          let three = c.in_ok-append_frame-2.ensures.frames _ two in
-          let P : List ℕ → List ℕ → List ℕ → Type 0 = λ x y z. IsSealed told c.in_ok-file.file (((bodies ++ x ∷ []) ++ y ∷ []) ++ z ∷ []) in
-          let first : P b.deref.result.now c.deref-3.result.now c.deref-4.result.now =
-          record { bytes = c.in_ok-file.ensures.frames _ three; len = c.in_ok-file.ensures.len ∙ three.len } in
-          subst (λ z. P inside.block.items (index_bytes handles) z) body
-          (subst (λ y. P inside.block.items y c.deref-4.result.now) index
-          (subst (λ x. P x c.deref-3.result.now c.deref-4.result.now) block first))))
+          let put = subst (λ (v : Closed g.row.D.Denot ℕ). HasFrames drafted v.frames (bodies ++ b.deref.result.now ∷ [])) (sym b.closed-is) (b.in_ok-close.ensures.frames bodies framed) in
+          subst (λ (block : List ℕ). HasFrames drafted closed.frames (bodies ++ block ∷ [])) b.deref.ensures.value put)
+          c.in_ok-indexed.ensures.index c.in_ok-indexed.ensures.footer
+          (λ bodies framed. record { bytes = c.in_ok-indexed.ensures.bytes bodies framed; len = c.in_ok-indexed.ensures.len bodies framed }))
       | else-not-is_empty b ↦
           (let none : inside.block.items ≡ [] = grind (arith, common_steps) in
           absurd (some_in_writing kind g.met.R.Record.lawful drafted w records has' some none))

@@ -11,8 +11,8 @@ invariant_of-self g c =
     let inside = c.self.inside in
     let old : Filing g.row.D.Denot = record {
       id = inside.id;
-      frames = inside.frames;
-      index = inside.index.items;
+      frames = inside.closed.frames;
+      index = inside.closed.index;
       block = inside.block.items;
       block_first = inside.block_first;
       records = inside.records;
@@ -21,7 +21,7 @@ invariant_of-self g c =
       last = inside.last;
     } in
     let same : inside.block.items ≡ c.truncate.new.self.items = grind (arith, common_steps, c.put_into.ensures.front) in
-    same_block old c.truncate.new.self.items c.self.invariant same
+    same_block g.R.Record.kind old c.truncate.new.self.items c.self.invariant same
 
 pub invariant_of-self-2 : goal.invariant_of-self-2
 invariant_of-self-2 g c =
@@ -30,8 +30,8 @@ invariant_of-self-2 g c =
     let it = c.args.it.now in
     let old : Filing g.row.D.Denot = record {
       id = inside.id;
-      frames = inside.frames;
-      index = inside.index.items;
+      frames = inside.closed.frames;
+      index = inside.closed.index;
       block = inside.block.items;
       block_first = inside.block_first;
       records = inside.records;
@@ -42,8 +42,8 @@ invariant_of-self-2 g c =
     let now = c.if-self-eq0.self-inside in
     let new : Filing g.row.D.Denot = record {
       id = now.id;
-      frames = now.frames;
-      index = now.index.items;
+      frames = now.closed.frames;
+      index = now.closed.index;
       block = now.block.items;
       block_first = now.block_first;
       records = now.records + 1;
