@@ -407,10 +407,10 @@ fn blocks_are_filled_in_order(rt: HostRuntime) {
         (341, 341, Ok(682)),
         (340, 1, Err(malformed(4_100))),
         (1, 1, Err(malformed(32))),
-        (342, 1, Err(malformed(0))),
-        (341, 342, Err(malformed(4_112))),
-        // the second handle has the number 342, and the footer's last is 341
-        (341, 0, Err(malformed(4_192))),
+        // a frame shorter than one record's or longer than a full block's is refused at the index, which is behind both blocks
+        (342, 1, Err(malformed(4_156))),
+        (341, 342, Err(malformed(8_236))),
+        (341, 0, Err(malformed(4_132))),
     ] {
         assert!(rt;
             count_split(alloc, first, second) == answer,
@@ -455,7 +455,7 @@ fn frames_of_no_list_are_refused(rt: HostRuntime) {
     let alloc = rt.alloc();
     let right = &BODIES[..24];
     for (what, block, index, offset, fault) in [
-        ("an empty block", b"".as_slice(), EMPTY, 20, malformed(0)),
+        ("an empty block", b"".as_slice(), EMPTY, 20, malformed(20)),
         (
             "a byte behind a block",
             BLOCK_AND_A_BYTE,
