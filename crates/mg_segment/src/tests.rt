@@ -1,5 +1,6 @@
 use super::*;
 use mg_disk::Files;
+use mg_frame::{put_u32, put_u64};
 use mg_memdisk::{MemDraft, MemFiles, MemSealed};
 use mg_records::Record;
 use mg_sealed::{append_frame, seal_frames, start_frames};
@@ -412,8 +413,10 @@ const BOTH: &[u8] = b"\0\0\0\0\0\0\0\x02\x01\x01b\0\0\0\x01y\0\0\0\0\0\0\0\x03\x
 const BOTH_AND_A_BYTE: &[u8] =
     b"\0\0\0\0\0\0\0\x02\x01\x01b\0\0\0\x01y\0\0\0\0\0\0\0\x03\x01\x01a\0\0\0\x01z\0";
 
-/// The handle of an empty block, that of `BOTH`, and that of a block of a byte more.
-const SHORT: &[u8] = b"\0\0\0\0\0\0\0\x02\0\0\0\0\0\0\0\0\0\0\0\x14";
+/// The handle of an empty block, that of a block of ten bytes, that of `BOTH`, and that of a block of a byte more.
+const EMPTY: &[u8] = b"\0\0\0\0\0\0\0\x02\0\0\0\0\0\0\0\0\0\0\0\x14";
+
+const SHORT: &[u8] = b"\0\0\0\0\0\0\0\x02\0\0\0\0\0\0\0\0\0\0\0\x1e";
 
 const RIGHT: &[u8] = b"\0\0\0\0\0\0\0\x02\0\0\0\0\0\0\0\0\0\0\0\x34";
 
@@ -444,7 +447,15 @@ fn count_two(alloc: Global, second: &[u8], index: &[u8]) -> Result<usize, Fault>
 fn frames_of_no_segment_are_refused(rt: HostRuntime) {
     let alloc = rt.alloc();
     for (what, block, index, at, fault) in [
-        ("an empty block", b"".as_slice(), SHORT, 20, malformed(0)),
+        // a block's frame has 31 bytes at least, those of a delete of one byte: a shorter one is refused at the index
+        ("an empty block", b"".as_slice(), EMPTY, 20, malformed(20)),
+        (
+            "a block of ten bytes",
+            &SECOND[..10],
+            SHORT,
+            30,
+            malformed(30),
+        ),
         (
             "a byte behind a block",
             BOTH_AND_A_BYTE,
@@ -469,5 +480,34 @@ fn frames_of_no_segment_are_refused(rt: HostRuntime) {
         ("a number twice in the index", SECOND, TWICE, malformed(72)),
     ] {
         assert!(rt; count_two(alloc, second, index) == Err(fault), "{what}");
+    }
+}
+
+/// How many records are listed of a segment of one block with two records, the first of a document of so many bytes.
+fn count_pair(alloc: Global, len: u32) -> Result<usize, Fault> {
+    if len > 5_000 {
+        return Err(Fault::BadWords);
+    }
+    let document = vec![in alloc; b'd'; len as usize]?;
+    let mut block = Vec::from_slice(alloc, b"\0\0\0\0\0\0\0\x02\x01\x01b")?;
+    put_u32(len, &mut block)?;
+    block.extend_from_slice(&document)?;
+    block.extend_from_slice(THIRD)?;
+    let mut index = Vec::from_slice(alloc, b"\0\0\0\0\0\0\0\x02\0\0\0\0\0\0\0\0")?;
+    put_u32(len + 51, &mut index)?;
+    let mut footer = Vec::from_slice(alloc, b"\x01\0\0\0\0\0\0\0\x02")?;
+    for number in [u64::from(len) + 3, 2, 3, u64::from(len) + 51] {
+        put_u64(number, &mut footer)?;
+    }
+    put_u32(1, &mut footer)?;
+    count_listed(alloc, &[&block, &index, &footer])
+}
+
+#[test]
+fn a_block_of_several_records_is_not_too_long(rt: HostRuntime) {
+    let alloc = rt.alloc();
+    // beside the document the block has 31 bytes, and it has room for 4,096
+    for (len, answer) in [(4_065, Ok(2)), (4_066, Err(malformed(0)))] {
+        assert!(rt; count_pair(alloc, len) == answer, "{len}");
     }
 }
