@@ -63,7 +63,7 @@ InOrder-push parts counts number [] rec ordered numbered kept next = (omega (ari
 InOrder-push parts counts number (first ∷ recs) rec ordered numbered kept next =
     (ordered.0, ordered.1, ordered.2, InOrder-push parts (one_more counts first.part) (number + 1) recs rec ordered.3 (omega (arith, numbered)) (omega (arith, kept)) next)
 
-frames-last : (recs : List Rec) (rec : Rec) → frames (map entry_of (recs ++ rec ∷ [])) ≡ frames (map entry_of recs) ++ frame rec.number (record_bytes rec)
+pub frames-last : (recs : List Rec) (rec : Rec) → frames (map entry_of (recs ++ rec ∷ [])) ≡ frames (map entry_of recs) ++ frame rec.number (record_bytes rec)
 unfolding frames entry_of
 frames-last recs rec =
     ap frames (map-append entry_of recs (rec ∷ [])) ∙ frames-append (map entry_of recs) (entry_of rec ∷ [])

@@ -9,7 +9,7 @@ use Rattle.mg_wal_format.specs.Recovery.{low_of}
 use Rattle.mg_wal_format.proofs.FoundLaws.{cons_same}
 use Rattle.mg_wal_format.proofs.LogLaws.{counts_after-append}
 
-InOrder-append : (parts : ℕ) (counts : Counts) (number : ℕ) (recs more : List Rec) → InOrder parts counts number recs → InOrder parts (counts_after counts recs) (number + length recs) more → InOrder parts counts number (recs ++ more)
+pub InOrder-append : (parts : ℕ) (counts : Counts) (number : ℕ) (recs more : List Rec) → InOrder parts counts number recs → InOrder parts (counts_after counts recs) (number + length recs) more → InOrder parts counts number (recs ++ more)
 InOrder-append parts counts number [] more ordered behind = subst (λ (n : ℕ). InOrder parts counts n more) (omega arith) behind
 InOrder-append parts counts number (rec ∷ recs) more ordered behind = (
   ordered.0,

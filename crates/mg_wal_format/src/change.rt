@@ -29,12 +29,13 @@ const CLEAR: u8 = 6;
 pub(crate) fn change_len(what: &Change) -> usize
     ensures exact { result ≡ length (change_bytes what.now) }
     ensures bound { result ≤ 1048832 }
+    ensures form { IsChange what.now }
 {
     match what {
         Change::Set { key, doc } => 6 + key.bytes().len() + doc.bytes().len(),
         Change::Del { key } => 2 + key.bytes().len(),
         Change::Mark | Change::Clear => 1,
-        Change::Forget { .. } | Change::Back { .. } => 9,
+        Change::Forget { mark } | Change::Back { mark } => 1 + mark.to_be_bytes().len(),
     }
 }
 

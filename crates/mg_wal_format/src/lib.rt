@@ -13,4 +13,4 @@ mod tests;
 
 pub use head::{Head, check_newest, put_head, read_head};
 pub use log::{LogRecords, read_log};
-pub use record::{Rec, put_record, read_record, record_len};
+pub use record::{Rec, put_record, put_record_frame, read_record, record_len};

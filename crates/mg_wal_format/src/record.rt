@@ -1,12 +1,13 @@
 //! Records: one change of one partition each. A record's frame has the record's number; here is the frame's body.
 
-ghost use Rattle.std.specs.Prelude.{◌≡◌, ◌++◌, ◌<◌, ◌≤◌, ◌^◌, ◌⊎◌, ℕ, length, take, IfOk, IfErr, IfSome, OnOk, IsOkUnless};
+ghost use Rattle.std.specs.Prelude.{◌≡◌, ◌++◌, ◌<◌, ◌≤◌, ◌^◌, ◌⊎◌, ℕ, length, take, IfOk, IfErr, IfSome, OnOk, OnErr, IsOkUnless};
+ghost use Rattle.mg_frame.specs.Frame.{frame};
 ghost use Rattle.mg_wal_format.specs.Faults.{record_fault, IsRecordRefused};
-ghost use Rattle.mg_wal_format.specs.Records.{counts_in, mark_of, record_body, record_bytes, IsNext, IsNumbered, IsReading};
+ghost use Rattle.mg_wal_format.specs.Records.{counts_in, mark_of, record_body, record_bytes, IsChange, IsNext, IsNumbered, IsReading};
 
 use crate::change::{change_len, put_change, read_change};
 use crate::faults::too_great;
-use mg_frame::{put_u16, put_u64, split_u16, split_u64};
+use mg_frame::{begin_frame, end_frame, put_u16, put_u64, split_u16, split_u64};
 use mg_model::Change;
 use mg_types::{Fault, FileId, NUMBER_LIMIT};
 use std::alloc::{AllocError, Global};
@@ -27,6 +28,7 @@ pub struct Rec {
 pub fn record_len(what: &Change) -> usize
     ensures exact { (part change : ℕ) → result ≡ length (record_body part change what.now) }
     ensures bound { result ≤ 1048842 }
+    ensures form { IsChange what.now }
 {
     10 + change_len(what)
 }
@@ -47,6 +49,47 @@ pub fn put_record(
     put_u16(part, out)?;
     put_u64(change, out)?;
     put_change(what, out)
+}
+
+/// Appends the frame of a record, the body of which is written in place. After an error a front of it may stand there.
+fn write_record_frame(
+    number: u64,
+    part: u16,
+    change: u64,
+    what: &Change,
+    out: &mut Vec<u8>,
+) -> Result<(), AllocError>
+    requires change { change < 2 ^ 62 }
+    requires mark { IfSome (mark_of what.now) (λ mark. mark < 2 ^ 62) }
+    ensures ok { OnOk result (out.new.items ≡ out.old.items ++ frame number (record_body part change what.now)) }
+    ensures front { take (length out.old.items) out.new.items ≡ out.old.items }
+    ensures form { IsChange what.now }
+{
+    let start = begin_frame(number, record_len(what), out)?;
+    put_record(part, change, what, out)?;
+    end_frame(start, out)
+}
+
+/// Appends the frame of a record, whose numbers a file may keep. The change is copied once.
+pub fn put_record_frame(
+    number: u64,
+    part: u16,
+    change: u64,
+    what: &Change,
+    out: &mut Vec<u8>,
+) -> Result<(), AllocError>
+    requires change { change < 2 ^ 62 }
+    requires mark { IfSome (mark_of what.now) (λ mark. mark < 2 ^ 62) }
+    ensures ok { OnOk result (out.new.items ≡ out.old.items ++ frame number (record_body part change what.now)) }
+    ensures err { OnErr result (out.new.items ≡ out.old.items) }
+    ensures form { IsChange what.now }
+{
+    let start = out.len();
+    let written = write_record_frame(number, part, change, what, out);
+    if written.is_err() {
+        out.truncate(start);
+    }
+    written
 }
 
 /// The record of this number that the body spells, all of it; none where it spells none.

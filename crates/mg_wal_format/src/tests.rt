@@ -1,4 +1,7 @@
+ghost use Rattle.std.specs.Prelude.{◌<◌, ◌^◌, length};
+
 use super::*;
+use mg_frame::put_frame;
 use mg_model::Change;
 use mg_types::{Doc, Fault, FileId, Key, Kind};
 use std::alloc::Global;
@@ -32,6 +35,15 @@ fn is_same(one: &Change, other: &Change) -> bool {
         (Change::Back { mark: a }, Change::Back { mark: b }) => a == b,
         _ => false,
     }
+}
+
+/// Whether the bytes are a 9 and the frame of this number and body.
+fn is_framed(alloc: Global, bytes: &[u8], number: u64, body: &[u8]) -> Result<bool, Fail>
+    requires { length body.now < 2 ^ 32 }
+{
+    let mut want = vec![in alloc; 9u8]?;
+    put_frame(number, body, &mut want)?;
+    Ok(bytes == want.as_slice())
 }
 
 #[test]
@@ -89,6 +101,9 @@ fn each_kind_of_record_is_written_and_read(rt: HostRuntime) -> Result<(), Fail> 
         put_record(rec.part, rec.change, &rec.what, &mut out)?;
         assert!(rt; out.as_slice() == *spelled);
         assert!(rt; record_len(what) == spelled.len());
+        let mut framed = vec![in alloc; 9u8]?;
+        put_record_frame(12, rec.part, rec.change, &rec.what, &mut framed)?;
+        assert!(rt; is_framed(alloc, &framed, 12, &out)?);
     }
     Ok(())
 }
