@@ -1,0 +1,12 @@
+use Rattle.std.proofs.Common.{ap}
+use Rattle.mg_wal.specs.States.{book_of}
+use Rattle.mg_wal.proofs.SyncLaws.{same_keeps, write_keeps}
+use Rattle.mg_wal.proofs.state.WalState.sync.Goals as goal
+use Rattle.mg_wal.proofs.state.WalState.sync.Goals.{then-has_unsynced+in_ok-write, else-has_unsynced}
+
+pub returns-clause-keeps : goal.returns-clause-keeps
+returns-clause-keeps g c =
+    elim c.if-has_unsynced.branch [
+      | then-has_unsynced+in_ok-write w ↦ same_keeps _ _ _ (ap (λ s. book_of s) w.self-is) (write_keeps w.write.result _ _ w.write.ensures.book w.write.ensures.err)
+      | else-has_unsynced w ↦ same_keeps _ _ _ (ap (λ s. book_of s) w.self-is) (λ basis list books. books)
+    ]

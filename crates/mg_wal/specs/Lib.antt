@@ -1,0 +1,4 @@
+pub mod Book
+pub mod Lists
+pub mod States
+pub mod Syncs

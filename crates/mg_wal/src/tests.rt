@@ -1,0 +1,229 @@
+ghost use Rattle.std.specs.Prelude.{◌≡◌, ◌<◌, ◌^◌, ℕ, None, IfOk, IfSome, IsSome, OnOk, IsTrue};
+ghost use Rattle.std.specs.List.{All};
+ghost use Rattle.mg_wal_format.specs.Records.{mark_of};
+ghost use Rattle.mg_wal_format.specs.Recovery.{log_name};
+ghost use Rattle.mg_wal.specs.Book.{parts_in};
+ghost use Rattle.mg_wal.specs.States.{book_of};
+
+use crate::frames::Frames;
+use crate::ledger::Ledger;
+use crate::state::WalState;
+use mg_disk::{Kind, Name, Volume};
+use mg_frame::put_frame;
+use mg_memdisk::MemVolume;
+use mg_model::Change;
+use mg_types::{Doc, Fault, Key};
+use std::alloc::Global;
+use std::test::Fail;
+
+/// A state of three partitions that had so many changes, of a list with so many records.
+fn state_of(alloc: Global, last: u64, counts: [u64; 3]) -> Result<WalState<MemVolume>, Fail>
+    requires last { last < 2 ^ 62 }
+    requires counts { All (λ count. count < 2 ^ 62) counts }
+    ensures parts { IfOk result (λ state. parts_in (book_of state) ≡ 3) }
+{
+    state_over(alloc, MemVolume::new(alloc, Vec::new(alloc)), last, counts)
+}
+
+/// A state of three partitions without a change, over a volume whose call of this number fails.
+fn state_of_failing(alloc: Global, call: u64) -> Result<WalState<MemVolume>, Fail>
+    ensures parts { IfOk result (λ state. parts_in (book_of state) ≡ 3) }
+{
+    let failing = vec![in alloc; call]?;
+    state_over(alloc, MemVolume::new(alloc, failing), 0, [0, 0, 0])
+}
+
+/// The same, over a volume that has no log.
+fn state_over<V: Volume>(
+    alloc: Global,
+    vol: V,
+    last: u64,
+    counts: [u64; 3],
+) -> Result<WalState<V>, Fail>
+    requires none { IsTrue V.tells → (number : ℕ) → (V.view vol).contents (log_name number) ≡ None }
+    requires last { last < 2 ^ 62 }
+    requires counts { All (λ count. count < 2 ^ 62) counts }
+    ensures parts { IfOk result (λ state. parts_in (book_of state) ≡ 3) }
+{
+    Ok(WalState {
+        vol,
+        ledger: Ledger {
+            last,
+            reach: 0,
+            counts: Vec::from_slice(alloc, &counts)?,
+            synced: vec![in alloc; 0u64, 0, 0]?,
+            released: vec![in alloc; 0u64, 0, 0]?,
+            staged: None,
+            frames: Frames::new(alloc),
+            writing: None,
+            newest: 0,
+            anchor: 0,
+        },
+        log: None,
+    })
+}
+
+/// Reserves a record, in a state that keeps its partitions.
+fn stage(state: &mut WalState<MemVolume>, part: u16, what: &Change) -> Result<(), Fault>
+    requires part { part < parts_in (book_of state.old) }
+    requires mark { IfSome (mark_of what.now) (λ mark. mark < 2 ^ 62) }
+    ensures parts { parts_in (book_of state.new) ≡ parts_in (book_of state.old) }
+    ensures staged { OnOk result (IsSome (book_of state.new).staged) }
+{
+    state.reserve(part, what)
+}
+
+fn set(alloc: Global, key: &[u8], doc: &[u8]) -> Result<Change, Fail>
+    ensures { IfOk result (λ change. mark_of change ≡ None) }
+{
+    Ok(Change::Set {
+        key: Key::new(alloc, key)?.ok_or("no key")?,
+        doc: Doc::new(alloc, doc)?.ok_or("no document")?,
+    })
+}
+
+/// Whether what waits is the frames of these bodies, numbered from `first` on.
+fn waits(
+    alloc: Global,
+    state: &WalState<MemVolume>,
+    first: u64,
+    bodies: &[&[u8]],
+) -> Result<bool, Fail> {
+    let mut want = Vec::new(alloc);
+    let mut number = first;
+    for body in bodies {
+        if body.len() > 1000 {
+            return Ok(false);
+        }
+        put_frame(number, body, &mut want)?;
+        number = number.wrapping_add(1);
+    }
+    Ok(state.ledger.frames.waiting() == want.as_slice())
+}
+
+#[test]
+fn pushed_records_wait_in_their_order(rt: HostRuntime) -> Result<(), Fail> {
+    let alloc = rt.alloc();
+    let mut state = state_of(alloc, 0, [0, 2, 0])?;
+    assert!(rt; state.last() == 0);
+    stage(&mut state, 0, &set(alloc, b"a", b"x")?)?;
+    assert!(rt; waits(alloc, &state, 1, &[])?);
+    assert!(rt; state.push() == 1);
+    stage(&mut state, 1, &Change::Mark)?;
+    assert!(rt; state.push() == 2);
+    stage(&mut state, 0, &Change::Clear)?;
+    assert!(rt; state.push() == 3);
+    assert!(rt; state.last() == 3);
+    let bodies = [
+        b"\0\0\0\0\0\0\0\0\0\x01\x01\x01a\0\0\0\x01x".as_slice(),
+        b"\0\x01\0\0\0\0\0\0\0\x03\x03",
+        b"\0\0\0\0\0\0\0\0\0\x02\x06",
+    ];
+    assert!(rt; waits(alloc, &state, 1, &bodies)?);
+    Ok(())
+}
+
+#[test]
+fn a_record_that_was_not_pushed_is_replaced(rt: HostRuntime) -> Result<(), Fail> {
+    let alloc = rt.alloc();
+    let mut state = state_of(alloc, 6, [0, 2, 0])?;
+    stage(&mut state, 0, &set(alloc, b"abc", b"a long document")?)?;
+    stage(&mut state, 1, &Change::Forget { mark: 258 })?;
+    assert!(rt; waits(alloc, &state, 7, &[])?);
+    assert!(rt; state.push() == 7);
+    let bodies = [b"\0\x01\0\0\0\0\0\0\0\x03\x04\0\0\0\0\0\0\x01\x02".as_slice()];
+    assert!(rt; waits(alloc, &state, 7, &bodies)?);
+    Ok(())
+}
+
+#[test]
+fn a_worn_number_is_told(rt: HostRuntime) -> Result<(), Fail> {
+    let alloc = rt.alloc();
+    let most = (1 << 62) - 1;
+    let mut state = state_of(alloc, most, [0, most, 0])?;
+    assert!(rt; stage(&mut state, 0, &Change::Mark) == Err(Fault::Worn { kept: most }));
+    let mut state = state_of(alloc, most - 1, [0, most, 0])?;
+    assert!(rt; stage(&mut state, 1, &Change::Mark) == Err(Fault::Worn { kept: most }));
+    stage(&mut state, 0, &Change::Mark)?;
+    assert!(rt; state.push() == most);
+    assert!(rt; stage(&mut state, 0, &Change::Mark) == Err(Fault::Worn { kept: most }));
+    let vol = state.into_volume();
+    assert!(rt; vol.faults().get() == 0);
+    Ok(())
+}
+
+/// The head of a log that begins with record 1, for three partitions without a change.
+const HEAD: &[u8] = b"\x01\0\0\0\0\0\0\0\x01\0\x03\
+    \0\0\0\0\0\0\0\0\0\0\0\0\0\0\0\0\0\0\0\0\0\0\0\0";
+
+/// A mark of partition 0, its first change.
+const MARK: &[u8] = b"\0\0\0\0\0\0\0\0\0\x01\x03";
+
+/// A clear of partition 1, its first change.
+const CLEAR: &[u8] = b"\0\x01\0\0\0\0\0\0\0\x01\x06";
+
+/// The frames of these numbers and bodies.
+fn frames(alloc: Global, entries: &[(u64, &[u8])]) -> Result<Vec<u8>, Fail> {
+    let mut bytes = Vec::new(alloc);
+    for (number, body) in entries {
+        if body.len() < 1000 {
+            put_frame(*number, body, &mut bytes)?;
+        }
+    }
+    Ok(bytes)
+}
+
+/// Whether the volume has a log of this number, of these bytes.
+fn has_log<V: Volume>(alloc: Global, vol: &mut V, number: u64, want: &[u8]) -> Result<bool, Fail> {
+    let name = Name {
+        kind: Kind::Wal,
+        number,
+    };
+    if !vol.names(alloc)?.contains(&name) {
+        return Ok(false);
+    }
+    let mut buf = Vec::new(alloc);
+    buf.resize(1000, 0u8)?;
+    let count = vol.read_log(alloc, name, 0, &mut buf)?;
+    Ok(&buf[..count] == want)
+}
+
+#[test]
+fn a_sync_writes_what_waits(rt: HostRuntime) -> Result<(), Fail> {
+    let alloc = rt.alloc();
+    let mut state = state_of(alloc, 0, [0, 0, 0])?;
+    stage(&mut state, 0, &Change::Mark)?;
+    state.push();
+    let receipt = state.sync(alloc, 0)?;
+    assert!(rt; receipt.through() == 1 && receipt.part() == 0 && receipt.change() == 1);
+    stage(&mut state, 1, &Change::Clear)?;
+    state.push();
+    stage(&mut state, 1, &Change::Mark)?;
+    let receipt = state.sync(alloc, 1)?;
+    assert!(rt; receipt.through() == 2 && receipt.part() == 1 && receipt.change() == 1);
+    let receipt = state.sync(alloc, 2)?;
+    assert!(rt; receipt.through() == 2 && receipt.part() == 2 && receipt.change() == 0);
+    let mut vol = state.into_volume();
+    let want = frames(alloc, &[(1, HEAD), (1, MARK), (2, CLEAR)])?;
+    assert!(rt; has_log(alloc, &mut vol, 1, &want)?);
+    assert!(rt; !has_log(alloc, &mut vol, 2, &want)?);
+    Ok(())
+}
+
+#[test]
+fn a_failed_log_is_not_written_again(rt: HostRuntime) -> Result<(), Fail> {
+    let alloc = rt.alloc();
+    // a log is made, appended to and synced by three calls
+    let mut state = state_of_failing(alloc, 2)?;
+    stage(&mut state, 0, &Change::Mark)?;
+    state.push();
+    assert!(rt; state.sync(alloc, 0) == Err(Fault::WriteFault));
+    stage(&mut state, 1, &Change::Clear)?;
+    state.push();
+    let receipt = state.sync(alloc, 0)?;
+    assert!(rt; receipt.through() == 2 && receipt.change() == 1);
+    let mut vol = state.into_volume();
+    let want = frames(alloc, &[(2, HEAD), (1, MARK), (2, CLEAR)])?;
+    assert!(rt; has_log(alloc, &mut vol, 2, &want)?);
+    Ok(())
+}
