@@ -1,5 +1,5 @@
 -- How a run breaks off.
-use Rattle.std.proofs.Common.{◌≡◌, ◌≤◌, ℕ, List, [], length, take, Option, Ok, refl, ap, subst, sym, ◌∙◌, inr, arith}
+use Rattle.std.proofs.Common.{◌≡◌, ℕ, List, [], length, take, Option, Ok, refl, ap, subst, sym, ◌∙◌, inr, arith}
 use Rattle.std.specs.Io.KnownBytes.{Appends}
 use Rattle.std.proofs.KnownBytes.{Appends-trans}
 use Rattle.std.proofs.lemmas.List.{append-nil, take_all}
@@ -96,7 +96,7 @@ breaks_at_end left left' w w' w'' a b first now least bytes lines session r s d 
       text = Appends-trans w w' w'' (joined calls) f.front d.text f.text;
     }
 
-pub stops_at_end : (left left' w w' w'' : Option (List ℕ)) (a b first before now : ℕ) (bytes : List ℕ) (lines : List Line) (session : Session) (f : Fault) → b ≡ a → ReadsAll left left' bytes → script_of 1 bytes ≡ Ok lines → Answered session lines w w' → first ≤ before → StopsWriting w' w'' before now (session_end session) f → Stops 1 empty_opening (seen left a w first) (seen left' b w'' now) f
+pub stops_at_end : (left left' w w' w'' : Option (List ℕ)) (a b first before now : ℕ) (bytes : List ℕ) (lines : List Line) (session : Session) (f : Fault) → b ≡ a → ReadsAll left left' bytes → script_of 1 bytes ≡ Ok lines → Answered session lines w w' → before ≡ first → StopsWriting w' w'' before now (session_end session) f → Stops 1 empty_opening (seen left a w first) (seen left' b w'' now) f
 stops_at_end left left' w w' w'' a b first before now bytes lines session fault.NoMemory k r s d l e = inr (breaks_at_end left left' w w' w'' a b first now 0 bytes lines session r s d e)
 stops_at_end left left' w w' w'' a b first before now bytes lines session fault.WriteFault k r s d l e = ((rose_since first before now l e.0, breaks_at_end left left' w w' w'' a b first now 1 bytes lines session r s d e.1), k)
 stops_at_end left left' w w' w'' a b first before now bytes lines session fault.ReadFault k r s d l e = absurd e

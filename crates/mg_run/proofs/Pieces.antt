@@ -1,19 +1,19 @@
 -- Reading and writing piece by piece, as loops do.
 use Rattle.std.proofs.Common.{◌≡◌, ◌≤◌, ℕ, ◌+◌, ◌-◌, List, ◌++◌, length, take, drop, Option, ap, sym, ◌∙◌, arith}
 use Rattle.std.proofs.lemmas.List.{append_assoc, length-append, take-append-drop}
-use Rattle.mg_faults.specs.Causes.{Rose}
+use Rattle.mg_faults.specs.Causes.{RoseOnce}
 use Rattle.mg_types.specs.declared.faults.Fault.{Fault}
 use Rattle.mg_types.specs.declared.faults.Fault.TheVariants as fault
 use Rattle.mg_run.specs.Runs.{FailsRead, StopsReading, script_limit}
 use Rattle.std.specs.Io.KnownBytes.{Consumes}
 use Rattle.std.proofs.KnownBytes.{Consumes-kept, Consumes-trans}
 
--- a count that rose from a later moment on rose from an earlier one on
-pub rose_since : (first before now : ℕ) → first ≤ before → Rose before now → Rose first now
-rose_since first before now l r = omega arith
+-- a count that rose by one after it had stayed rose by one in all
+pub rose_since : (first before now : ℕ) → before ≡ first → RoseOnce before now → RoseOnce first now
+rose_since first before now same rose = cc
 
 -- a read that fails stops the reading
-pub stops_reading : (left mid left' : Option (List ℕ)) (bytes : List ℕ) (first before now : ℕ) (f : Fault) → Consumes left mid bytes → length bytes ≤ script_limit → first ≤ before → FailsRead mid left' (script_limit + 1 - length bytes) before now f → StopsReading left left' first now f
+pub stops_reading : (left mid left' : Option (List ℕ)) (bytes : List ℕ) (first before now : ℕ) (f : Fault) → Consumes left mid bytes → length bytes ≤ script_limit → before ≡ first → FailsRead mid left' (script_limit + 1 - length bytes) before now f → StopsReading left left' first now f
 stops_reading left mid left' bytes first before now fault.NoMemory t few l r = record { bytes = bytes ++ r.bytes; taken = Consumes-trans left mid left' bytes r.bytes t r.taken; in_limit = omega (arith, few, r.in_limit, length-append bytes r.bytes) }
 stops_reading left mid left' bytes first before now fault.ReadFault t few l r = (rose_since first before now l r.0, record { bytes = bytes; taken = Consumes-kept left mid left' bytes t r.1; in_limit = few })
 stops_reading left mid left' bytes first before now (fault.Damaged file at kept found) t few l r = r

@@ -71,7 +71,7 @@ front_on session lines i least line w w' w'' a l e n =
     }
 
 -- the calls stop where one call more stops
-pub stops_on : (session : Session) (lines : List Line) (i : ℕ) (line : Line) (w w' w'' : Option (List ℕ)) (first before now : ℕ) (f : Fault) (a : Answered session (take i lines) w w') → i < length lines → line ≡ get_or lines i line → first ≤ before
+pub stops_on : (session : Session) (lines : List Line) (i : ℕ) (line : Line) (w w' w'' : Option (List ℕ)) (first before now : ℕ) (f : Fault) (a : Answered session (take i lines) w w') → i < length lines → line ≡ get_or lines i line → before ≡ first
     → StopsCall (take i lines) a.answers line w' w'' before now f → StopsCalls lines w w'' first now f
 stops_on session lines i line w w' w'' first before now fault.NoMemory a l e m s = front_on session lines i 0 line w w' w'' a l e s
 stops_on session lines i line w w' w'' first before now fault.WriteFault a l e m s = (rose_since first before now m s.0, front_on session lines i 1 line w w' w'' a l e s.1)

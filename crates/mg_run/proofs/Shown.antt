@@ -3,8 +3,7 @@ use Rattle.std.proofs.Common.{◌≡◌, ℕ, ◌+◌, List, [], ◌∷◌, ◌+
 use Rattle.std.specs.Bool.{◌==◌, if◌then◌else◌}
 use Rattle.std.specs.Option.{option_to_list}
 use Rattle.std.specs.List.{filter, flat_map}
-use Rattle.std.proofs.lemmas.List.{length-append, map-append}
-use Rattle.std.proofs.lemmas.List.Elements.{filter-append}
+use Rattle.std.proofs.lemmas.List.{length-append}
 use Rattle.std.proofs.lemmas.Bool.{eqb-true}
 use Rattle.mg_types.specs.declared.faults.Fault.{Fault}
 use Rattle.mg_model.specs.declared.calls.Call.{Call}
@@ -13,16 +12,11 @@ use Rattle.mg_model.specs.declared.replies.Reply.{Reply}
 use Rattle.mg_model.specs.History.{History, own_places, own_places_from}
 use Rattle.mg_model.specs.Fits.{entered}
 use Rattle.mg_model.specs.Placed.{Opening, Placed, calls_in, history_in}
+use Rattle.mg_model.proofs.ManyParts.{history-append}
 use Rattle.mg_script.specs.declared.script.Line.{Line}
 use Rattle.mg_run.specs.Placed.{placed_by, placed_of}
 use Rattle.mg_run.specs.Answers.{AllFit}
 use Rattle.mg_run.specs.Runs.{numbered, numbered_answer, NumberedAnswer, places_shown, told_by}
-
--- the history of a partition through some placed calls and more
-history-append : (xs ys : List Placed) (part : ℕ) → history_in (xs ++ ys) part ≡ history_in xs part ++ history_in ys part
-history-append xs ys part =
-    ap (map (λ (p : Placed). (p.client, p.call))) (filter-append (λ (p : Placed). p.part == part) xs ys)
-    ∙ map-append (λ (p : Placed). (p.client, p.call)) (filter (λ (p : Placed). p.part == part) xs) (filter (λ (p : Placed). p.part == part) ys)
 
 own_places-append : (n : ℕ) (xs ys : History) (client : ℕ) → own_places_from n (xs ++ ys) client ≡ own_places_from n xs client ++ own_places_from (n + length xs) ys client
 own_places-append n [] ys client = ap (λ (k : ℕ). own_places_from k ys client) (sym (add-zero n))

@@ -3,7 +3,7 @@ use Rattle.std.specs.Prelude.{◌≡◌, ◌<◌, ◌≤◌, ℕ, zero, suc, ◌
 use Rattle.std.specs.Option.{option_to_list}
 use Rattle.std.specs.List.{count_by, filter, flat_map, fold, zip}
 use Rattle.std.specs.Io.KnownBytes.{Appends, Consumes, IsAtEnd, Keeps}
-use Rattle.mg_faults.specs.Causes.{Rose}
+use Rattle.mg_faults.specs.Causes.{RoseOnce}
 use Rattle.mg_types.specs.declared.faults.Fault.{Fault}
 use Rattle.mg_types.specs.declared.faults.Fault.TheVariants as fault
 use Rattle.mg_types.specs.declared.faults.Why.{Why}
@@ -190,7 +190,7 @@ pub record TakesSome (left left' : Option (List ℕ)) (most : ℕ) : Type 0 wher
 -- why reading stopped before the end of the input
 abbrev pub StopsReading : Option (List ℕ) → Option (List ℕ) → ℕ → ℕ → Fault → Type 0
 StopsReading left left' faults faults' fault.NoMemory = TakesSome left left' (script_limit + 1)
-StopsReading left left' faults faults' fault.ReadFault = Rose faults faults' × TakesSome left left' script_limit
+StopsReading left left' faults faults' fault.ReadFault = RoseOnce faults faults' × TakesSome left left' script_limit
 StopsReading left left' faults faults' (fault.TooLong limit) = IsTooLong left left' limit × (faults' ≡ faults)
 StopsReading left left' faults faults' other = ⊥
 
@@ -203,12 +203,12 @@ pub record WritesNothing (before after : Seen) : Type 0 where
   pub text : Keeps before.written after.written
   pub faults : after.write_faults ≡ before.write_faults
 
--- Why a run of so many partitions over good words stopped, and what it had read and written. A count of faults of which the
--- named fault is not is as before, but after want of memory.
+-- Why a run of so many partitions over good words stopped, and what it had read and written. The count of faults of which the
+-- named fault is has risen by one. One of which it is not is as before, but after want of memory.
 abbrev pub Stops : ℕ → Opening → Seen → Seen → Fault → Type 0
 Stops parts opening before after fault.NoMemory = (TakesSome before.left after.left (script_limit + 1) × WritesNothing before after) ⊎ BreaksOff parts opening before after 0
-Stops parts opening before after fault.ReadFault = (Rose before.read_faults after.read_faults × TakesSome before.left after.left script_limit) × WritesNothing before after
-Stops parts opening before after fault.WriteFault = (Rose before.write_faults after.write_faults × BreaksOff parts opening before after 1) × ReadsWell before after
+Stops parts opening before after fault.ReadFault = (RoseOnce before.read_faults after.read_faults × TakesSome before.left after.left script_limit) × WritesNothing before after
+Stops parts opening before after fault.WriteFault = (RoseOnce before.write_faults after.write_faults × BreaksOff parts opening before after 1) × ReadsWell before after
 Stops parts opening before after (fault.BadLine line why) = (IsBadLine parts before.left after.left line why × ReadsWell before after) × WritesNothing before after
 Stops parts opening before after (fault.TooLong limit) = (IsTooLong before.left after.left limit × ReadsWell before after) × WritesNothing before after
 Stops parts opening before after other = ⊥
@@ -216,7 +216,7 @@ Stops parts opening before after other = ⊥
 -- why one read gave nothing, with so many bytes that it could take; of the input nothing was taken where it failed
 abbrev pub FailsRead : Option (List ℕ) → Option (List ℕ) → ℕ → ℕ → ℕ → Fault → Type 0
 FailsRead left left' room faults faults' fault.NoMemory = TakesSome left left' room
-FailsRead left left' room faults faults' fault.ReadFault = Rose faults faults' × Keeps left left'
+FailsRead left left' room faults faults' fault.ReadFault = RoseOnce faults faults' × Keeps left left'
 FailsRead left left' room faults faults' other = ⊥
 
 -- one piece of the input was taken, to which the bytes read so far grew; an empty piece means the end
@@ -239,7 +239,7 @@ pub record WritesFront (written written' : Option (List ℕ)) (bytes : List ℕ)
 -- why writing some bytes stopped, and what was written of them
 abbrev pub StopsWriting : Option (List ℕ) → Option (List ℕ) → ℕ → ℕ → List ℕ → Fault → Type 0
 StopsWriting written written' faults faults' bytes fault.NoMemory = WritesFront written written' bytes 0
-StopsWriting written written' faults faults' bytes fault.WriteFault = Rose faults faults' × WritesFront written written' bytes 1
+StopsWriting written written' faults faults' bytes fault.WriteFault = RoseOnce faults faults' × WritesFront written written' bytes 1
 StopsWriting written written' faults faults' bytes other = ⊥
 
 -- what the program says of a fault on standard error

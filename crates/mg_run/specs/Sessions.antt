@@ -2,7 +2,7 @@
 use Rattle.std.specs.Prelude.{◌≡◌, ◌≤◌, ◌<◌, ℕ, List, [], ◌∷◌, ◌++◌, length, take, slice_index, ◌==◌, Option}
 use Rattle.std.specs.List.{count_by}
 use Rattle.std.specs.Io.KnownBytes.{Appends}
-use Rattle.mg_faults.specs.Causes.{Rose}
+use Rattle.mg_faults.specs.Causes.{RoseOnce}
 use Rattle.mg_types.specs.declared.faults.Fault.{Fault}
 use Rattle.mg_types.specs.declared.faults.Fault.TheVariants as fault
 use Rattle.mg_model.specs.declared.replies.Answer.{Answer}
@@ -51,7 +51,7 @@ pub record AnsweredFront (lines : List Line) (written written' : Option (List �
 -- why the calls stopped, and what was written of their lines
 abbrev pub StopsCalls : List Line → Option (List ℕ) → Option (List ℕ) → ℕ → ℕ → Fault → Type 0
 StopsCalls lines written written' faults faults' fault.NoMemory = AnsweredFront lines written written' 0
-StopsCalls lines written written' faults faults' fault.WriteFault = Rose faults faults' × AnsweredFront lines written written' 1
+StopsCalls lines written written' faults faults' fault.WriteFault = RoseOnce faults faults' × AnsweredFront lines written written' 1
 StopsCalls lines written written' faults faults' other = ⊥
 
 -- one call more was answered, as so many-th of its client
@@ -79,7 +79,7 @@ pub record AnsweredNextFront (lines : List Line) (answers : List Answer) (line :
 -- why one call more stopped
 abbrev pub StopsCall : List Line → List Answer → Line → Option (List ℕ) → Option (List ℕ) → ℕ → ℕ → Fault → Type 0
 StopsCall lines answers line written written' faults faults' fault.NoMemory = AnsweredNextFront lines answers line written written' 0
-StopsCall lines answers line written written' faults faults' fault.WriteFault = Rose faults faults' × AnsweredNextFront lines answers line written written' 1
+StopsCall lines answers line written written' faults faults' fault.WriteFault = RoseOnce faults faults' × AnsweredNextFront lines answers line written written' 1
 StopsCall lines answers line written written' faults faults' other = ⊥
 
 -- the end line where a session stands

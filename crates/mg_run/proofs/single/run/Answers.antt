@@ -11,4 +11,4 @@ returns-in-Err-serve_all g c =
 pub returns : goal.returns
 returns g c =
     let script : script_of 1 c.in-Ok.bytes.items ≡ Ok c.deref-2.result.now = ap (script_of 1) (sym c.deref.ensures.value) ∙ c.in-Ok-read_script.ensures.ok ∙ ap Ok (sym c.deref-2.ensures.value) in
-    stops_at_end _ _ _ _ _ _ _ _ _ _ c.in-Ok.bytes.items c.deref-2.result.now c.in-Ok-serve_all.session c.in-Err-write_end.fault c.in-Ok.ensures.good c.in-Ok.ensures.read script c.in-Ok-serve_all.ensures.served c.in-Ok-serve_all.ensures.later c.in-Err-write_end.ensures.wrote
+    stops_at_end _ _ _ _ _ _ _ _ _ _ c.in-Ok.bytes.items c.deref-2.result.now c.in-Ok-serve_all.session c.in-Err-write_end.fault c.in-Ok.ensures.good c.in-Ok.ensures.read script c.in-Ok-serve_all.ensures.served c.in-Ok-serve_all.ensures.good c.in-Err-write_end.ensures.wrote

@@ -6,7 +6,6 @@ use Rattle.mg_run.proofs.streams.read_all.Given as goal
 abbrev pub invariant-loop-buffer : goal.invariant-loop-buffer
 invariant-loop-buffer g l = record {
   taken : Consumes (g.S.Source.left l.fn.input) (g.S.Source.left l.input) l.bytes.items;
-  later : g.S.Source.faults l.fn.input ≤ g.S.Source.faults l.input;
   same : g.S.Source.faults l.input ≡ g.S.Source.faults l.fn.input;
   limit : length l.bytes.items ≤ script_limit + 1;
 }

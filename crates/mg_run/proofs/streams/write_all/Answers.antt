@@ -1,4 +1,4 @@
-use Rattle.std.proofs.Common.{◌∙◌, ◌++◌, take, arith}
+use Rattle.std.proofs.Common.{◌∙◌, ◌++◌, take}
 use Rattle.std.proofs.KnownBytes.{Appends-trans}
 use Rattle.mg_run.proofs.Pieces.{split_on}
 use Rattle.mg_run.proofs.streams.write_all.Goals as goal
@@ -12,6 +12,5 @@ loop-rest-preserved g c =
       front = so_far.front ++ take count rest;
       split = split_on c.args.bytes.now so_far.front rest _ count so_far.split c.split_at.ensures.back;
       text = Appends-trans _ _ _ so_far.front (take count rest) so_far.text c.in-Ok.ensures.bytes;
-      later = omega (arith, so_far.later, c.in-Ok.ensures.cause.later);
-      same = c.in-Ok.ensures.kept ∙ so_far.same;
+      same = c.in-Ok.ensures.once.kept ∙ so_far.same;
     }

@@ -1,4 +1,4 @@
-use Rattle.std.proofs.Common.{◌≡◌, ◌≤◌, ◌++◌, List, ℕ, length}
+use Rattle.std.proofs.Common.{◌≡◌, ◌++◌, List, ℕ, length}
 use Rattle.std.specs.Io.KnownBytes.{Appends}
 use Rattle.mg_run.proofs.streams.write_all.Given as goal
 
@@ -7,7 +7,6 @@ invariant-loop-rest g l = record {
   front : List ℕ;
   split : l.bytes ≡ front ++ l.rest;
   text : Appends (g.K.Sink.written l.fn.out) (g.K.Sink.written l.out) front;
-  later : g.K.Sink.faults l.fn.out ≤ g.K.Sink.faults l.out;
   same : g.K.Sink.faults l.out ≡ g.K.Sink.faults l.fn.out;
 }
 
