@@ -4,8 +4,8 @@
 ghost use Rattle.std.specs.Prelude.{◌≡◌, ◌<◌, ◌++◌, List, ℕ, None, Some, IfOk, OnOk, IsSome, IsSomeAnd, IsTrue, false};
 ghost use Rattle.mg_faults.specs.Causes.{CountsOnce, HasCause, last_count};
 ghost use Rattle.mg_disk.specs.Files.{ReadsAt};
-ghost use Rattle.mg_disk.specs.Hosts.{IsVolume};
-ghost use Rattle.mg_disk.specs.Images.{View, Appended, KeepsOthers};
+ghost use Rattle.mg_disk.specs.Hosts.{IsVolume, SameButFor};
+ghost use Rattle.mg_disk.specs.Images.{View, Appended, KeepsOthers, Stays};
 ghost use Rattle.mg_disk.specs.Moments.{LeavesOnly, EachImage, Begins};
 ghost use Rattle.mg_types.specs.Names.{IsLogName};
 
@@ -76,7 +76,9 @@ pub fn read_found<H: Host>(
     ensures keeps { IsTrue H.Vol.tells → (before after : H.Vol) → (H.state host.old).inside n ≡ Some before
         → (H.state host.new).inside n ≡ Some after → (H.Vol.view after).contents ≡ (H.Vol.view before).contents }
     ensures back { (H.state host.new).out n ≡ false }
+    ensures rest { SameButFor n (H.state host.old) (H.state host.new) }
     ensures cause { (H.state host.new).lent_faults n < last_count → HasCause DiskError.Failed (H.faults host.old) (H.faults host.new) result }
+    ensures once { CountsOnce (H.faults host.old) (H.faults host.new) result }
 {
     let mut volume = host.volume(alloc, n)?;
     let taken = read_if_there(alloc, &mut volume, name, buf);
@@ -124,8 +126,13 @@ pub fn store_log<H: Host>(
         → IsSome ((H.Vol.view vol).contents name)) }
     ensures others { IsTrue H.Vol.tells → (before after : H.Vol) → (H.state host.old).inside n ≡ Some before
         → (H.state host.new).inside n ≡ Some after → KeepsOthers name (H.Vol.view before).contents (H.Vol.view after).contents }
+    ensures kept { IsTrue H.Vol.tells → (before after : H.Vol) → (H.state host.old).inside n ≡ Some before
+        → (H.state host.new).inside n ≡ Some after → IsSome ((H.Vol.view before).contents name)
+        → ((H.Vol.view after).contents ≡ (H.Vol.view before).contents) × IfOk result (λ made. made ≡ false) }
     ensures back { (H.state host.new).out n ≡ false }
+    ensures rest { SameButFor n (H.state host.old) (H.state host.new) }
     ensures cause { (H.state host.new).lent_faults n < last_count → HasCause DiskError.Failed (H.faults host.old) (H.faults host.new) result }
+    ensures once { CountsOnce (H.faults host.old) (H.faults host.new) result }
 {
     let mut volume = host.volume(alloc, n)?;
     let made = store_if_free(alloc, &mut volume, name, bytes);
@@ -144,6 +151,8 @@ fn store_if_free<V: Volume>(
     ensures stored { IsTrue V.tells → IfOk result (λ made. IsTrue made → EachImage (V.view volume.new) (λ image. image name ≡ Some bytes.now)) }
     ensures taken { IsTrue V.tells → IfOk result (λ made. made ≡ false → IsSome ((V.view volume.old).contents name)) }
     ensures others { IsTrue V.tells → KeepsOthers name (V.view volume.old).contents (V.view volume.new).contents }
+    ensures kept { IsTrue V.tells → IsSome ((V.view volume.old).contents name) → Stays (V.view volume.old) (V.view volume.new)
+        × IfOk result (λ made. made ≡ false) }
     ensures cause { HasCause DiskError.Failed (V.faults volume.old) (V.faults volume.new) result }
     ensures once { CountsOnce (V.faults volume.old) (V.faults volume.new) result }
 {

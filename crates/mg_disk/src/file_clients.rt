@@ -4,8 +4,8 @@
 ghost use Rattle.std.specs.Prelude.{◌≡◌, ◌≢◌, ◌<◌, List, ℕ, None, Some, IfOk, IfSome, IsSome, IsSomeAnd, IsTrue, false};
 ghost use Rattle.mg_faults.specs.Causes.{CountsOnce, HasCause, last_count};
 ghost use Rattle.mg_disk.specs.Files.{ReadsAt, found_bytes};
-ghost use Rattle.mg_disk.specs.Hosts.{IsVolume};
-ghost use Rattle.mg_disk.specs.Images.{KeepsOthers};
+ghost use Rattle.mg_disk.specs.Hosts.{IsVolume, SameButFor};
+ghost use Rattle.mg_disk.specs.Images.{KeepsOthers, Stays};
 ghost use Rattle.mg_disk.specs.Moments.{EachImage};
 ghost use Rattle.mg_types.specs.declared.names.Name.{Name};
 ghost use Rattle.mg_types.specs.Names.{IsFileName};
@@ -40,6 +40,8 @@ pub fn adopt_file<V: Volume>(
     ensures lasting { IsTrue V.tells → IfOk result (λ made. IsTrue made → EachImage (V.view volume.new) (λ image. image name ≡ V.Port.told file.now)) }
     ensures taken { IsTrue V.tells → IfOk result (λ made. made ≡ false → IsSome ((V.view volume.old).contents name)) }
     ensures others { IsTrue V.tells → KeepsOthers name (V.view volume.old).contents (V.view volume.new).contents }
+    ensures kept { IsTrue V.tells → IsSome ((V.view volume.old).contents name) → Stays (V.view volume.old) (V.view volume.new)
+        × IfOk result (λ made. made ≡ false) }
     ensures cause { HasCause DiskError.Failed (V.faults volume.old) (V.faults volume.new) result }
     ensures once { CountsOnce (V.faults volume.old) (V.faults volume.new) result }
 {
@@ -68,8 +70,13 @@ pub fn store_file<H: Host>(
         → IsSome ((H.Vol.view vol).contents name)) }
     ensures others { IsTrue H.Vol.tells → (before after : H.Vol) → (H.state host.old).inside n ≡ Some before
         → (H.state host.new).inside n ≡ Some after → KeepsOthers name (H.Vol.view before).contents (H.Vol.view after).contents }
+    ensures kept { IsTrue H.Vol.tells → (before after : H.Vol) → (H.state host.old).inside n ≡ Some before
+        → (H.state host.new).inside n ≡ Some after → IsSome ((H.Vol.view before).contents name)
+        → ((H.Vol.view after).contents ≡ (H.Vol.view before).contents) × IfOk result (λ made. made ≡ false) }
     ensures back { (H.state host.new).out n ≡ false }
+    ensures rest { SameButFor n (H.state host.old) (H.state host.new) }
     ensures cause { (H.state host.new).lent_faults n < last_count → HasCause DiskError.Failed (H.faults host.old) (H.faults host.new) result }
+    ensures once { CountsOnce (H.faults host.old) (H.faults host.new) result }
 {
     let file = write_through(alloc, host, bytes)?;
     adopt_in(alloc, host, n, name, &file)
@@ -84,6 +91,7 @@ fn write_through<H: Host>(
     ensures told { IfOk result (λ file. IfSome (H.Vol.Port.told file) (λ told. told ≡ bytes.now)) }
     ensures same { H.state host.new ≡ H.state host.old }
     ensures cause { HasCause DiskError.Failed (H.faults host.old) (H.faults host.new) result }
+    ensures once { CountsOnce (H.faults host.old) (H.faults host.new) result }
 {
     let mut port = host.files(alloc)?;
     let written = write_file(alloc, &mut port, bytes);
@@ -108,8 +116,13 @@ fn adopt_in<H: Host>(
         → IsSome ((H.Vol.view vol).contents name)) }
     ensures others { IsTrue H.Vol.tells → (before after : H.Vol) → (H.state host.old).inside n ≡ Some before
         → (H.state host.new).inside n ≡ Some after → KeepsOthers name (H.Vol.view before).contents (H.Vol.view after).contents }
+    ensures kept { IsTrue H.Vol.tells → (before after : H.Vol) → (H.state host.old).inside n ≡ Some before
+        → (H.state host.new).inside n ≡ Some after → IsSome ((H.Vol.view before).contents name)
+        → ((H.Vol.view after).contents ≡ (H.Vol.view before).contents) × IfOk result (λ made. made ≡ false) }
     ensures back { (H.state host.new).out n ≡ false }
+    ensures rest { SameButFor n (H.state host.old) (H.state host.new) }
     ensures cause { (H.state host.new).lent_faults n < last_count → HasCause DiskError.Failed (H.faults host.old) (H.faults host.new) result }
+    ensures once { CountsOnce (H.faults host.old) (H.faults host.new) result }
 {
     let mut volume = host.volume(alloc, n)?;
     let made = adopt_file(alloc, &mut volume, name, file);
@@ -136,7 +149,9 @@ pub fn read_file<H: Host>(
     ensures keeps { IsTrue H.Vol.tells → (before after : H.Vol) → (H.state host.old).inside n ≡ Some before
         → (H.state host.new).inside n ≡ Some after → (H.Vol.view after).contents ≡ (H.Vol.view before).contents }
     ensures back { (H.state host.new).out n ≡ false }
+    ensures rest { SameButFor n (H.state host.old) (H.state host.new) }
     ensures cause { (H.state host.new).lent_faults n < last_count → HasCause DiskError.Failed (H.faults host.old) (H.faults host.new) result }
+    ensures once { CountsOnce (H.faults host.old) (H.faults host.new) result }
 {
     match find_in(alloc, host, n, name)? {
         Some(file) => Ok(Some(read_through(alloc, host, &file, buf)?)),
@@ -159,7 +174,9 @@ fn find_in<H: Host>(
     ensures keeps { IsTrue H.Vol.tells → (before after : H.Vol) → (H.state host.old).inside n ≡ Some before
         → (H.state host.new).inside n ≡ Some after → (H.Vol.view after).contents ≡ (H.Vol.view before).contents }
     ensures back { (H.state host.new).out n ≡ false }
+    ensures rest { SameButFor n (H.state host.old) (H.state host.new) }
     ensures cause { (H.state host.new).lent_faults n < last_count → HasCause DiskError.Failed (H.faults host.old) (H.faults host.new) result }
+    ensures once { CountsOnce (H.faults host.old) (H.faults host.new) result }
 {
     let mut volume = host.volume(alloc, n)?;
     let found = volume.find_file(alloc, name);
@@ -177,6 +194,7 @@ fn read_through<H: Host>(
     ensures bytes { IfOk result (λ count. IfSome (H.Vol.Port.told file.now) (λ bytes. ReadsAt bytes 0 buf.old buf.new count)) }
     ensures same { H.state host.new ≡ H.state host.old }
     ensures cause { HasCause DiskError.Failed (H.faults host.old) (H.faults host.new) result }
+    ensures once { CountsOnce (H.faults host.old) (H.faults host.new) result }
 {
     let mut port = host.files(alloc)?;
     let taken = port.read(alloc, file, 0, buf);

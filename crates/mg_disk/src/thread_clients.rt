@@ -1,7 +1,7 @@
 //! A small client of two threads, proved over every host whose volumes and ports may be used in another thread.
 
-ghost use Rattle.std.specs.Prelude.{◌≡◌, IfOk, IfSome, take};
-ghost use Rattle.mg_faults.specs.Causes.{HasCause};
+ghost use Rattle.std.specs.Prelude.{◌≡◌, IfOk, IfSome, OnOk, take};
+ghost use Rattle.mg_faults.specs.Causes.{CountsOnce, HasCause};
 
 use crate::{DiskError, Files, Host, SendFiles, SendVolume, Volume};
 use std::alloc::Global;
@@ -21,6 +21,7 @@ pub fn read_two_files<H: Host<Vol: SendVolume>, R: Threads>(
     ensures second { IfOk result (λ read. IfSome (H.Vol.Port.told second.now) (λ bytes. read.1.items ≡ take most bytes)) }
     ensures same { H.state host.new ≡ H.state host.old }
     ensures cause { HasCause DiskError.Failed (H.faults host.old) (H.faults host.new) result }
+    ensures good { OnOk result (H.faults host.new ≡ H.faults host.old) }
 {
     let one = host.files(alloc)?;
     match host.files(alloc) {
@@ -56,16 +57,20 @@ fn read_by_two<F: SendFiles, R: Threads>(
     ensures second { IfOk result.1.1 (λ read. IfSome (F.told second.now) (λ bytes. read.items ≡ take most bytes)) }
     ensures cause_of_first { HasCause DiskError.Failed (F.faults one) (F.faults result.0.0) result.0.1 }
     ensures cause_of_second { HasCause DiskError.Failed (F.faults two) (F.faults result.1.0) result.1.1 }
+    ensures once_of_first { CountsOnce (F.faults one) (F.faults result.0.0) result.0.1 }
+    ensures once_of_second { CountsOnce (F.faults two) (F.faults result.1.0) result.1.1 }
 {
     join(
         rt,
         || -> (F, Result<Vec<u8>, DiskError>)
             ensures bytes { IfOk result.1 (λ read. IfSome (F.told first.entry.now) (λ bytes. read.items ≡ take most bytes)) }
             ensures cause { HasCause DiskError.Failed (F.faults one) (F.faults result.0) result.1 }
+            ensures once { CountsOnce (F.faults one) (F.faults result.0) result.1 }
         { read_front(alloc, one, first, most) },
         || -> (F, Result<Vec<u8>, DiskError>)
             ensures bytes { IfOk result.1 (λ read. IfSome (F.told second.entry.now) (λ bytes. read.items ≡ take most bytes)) }
             ensures cause { HasCause DiskError.Failed (F.faults two) (F.faults result.0) result.1 }
+            ensures once { CountsOnce (F.faults two) (F.faults result.0) result.1 }
         { read_front(alloc, two, second, most) },
     )
 }
@@ -79,6 +84,7 @@ fn read_front<F: Files>(
 ) -> (F, Result<Vec<u8>, DiskError>)
     ensures bytes { IfOk result.1 (λ read. IfSome (F.told file.now) (λ bytes. read.items ≡ take most bytes)) }
     ensures cause { HasCause DiskError.Failed (F.faults port) (F.faults result.0) result.1 }
+    ensures once { CountsOnce (F.faults port) (F.faults result.0) result.1 }
 {
     let read = read_into_new(alloc, &mut port, file, most);
     (port, read)
@@ -93,6 +99,7 @@ fn read_into_new<F: Files>(
 ) -> Result<Vec<u8>, DiskError>
     ensures bytes { IfOk result (λ read. IfSome (F.told file.now) (λ bytes. read.items ≡ take most bytes)) }
     ensures cause { HasCause DiskError.Failed (F.faults port.old) (F.faults port.new) result }
+    ensures once { CountsOnce (F.faults port.old) (F.faults port.new) result }
 {
     let mut bytes = vec![in alloc; 0; most]?;
     let count = port.read(alloc, file, 0, &mut bytes)?;
