@@ -163,6 +163,7 @@ impl MemVolume {
         ensures stands { (other : Name) → other ≢ name → mem_stands self.new other ≡ mem_stands self.old other }
         ensures still { OnErr result (mem_stands self.new name ≡ mem_stands self.old name) }
         ensures calls { mem_calls self.new ≡ mem_calls self.old }
+        ensures shows { mem_shows self.new ≡ mem_shows self.old }
         ensures memory { IsErrOf result DiskError.Failed → ⊥ }
     {
         self.push(Event::Put(name, value))
@@ -178,6 +179,7 @@ impl MemVolume {
         ensures stands { (other : Name) → other ≢ name → mem_stands self.new other ≡ mem_stands self.old other }
         ensures still { value_bytes value ≡ None → (mem_stands self.new name ≡ mem_stands self.old name) ⊎ (mem_stands self.new name ≡ None) }
         ensures calls { mem_calls self.new ≡ mem_calls self.old }
+        ensures shows { mem_shows self.new ≡ mem_shows self.old }
         ensures memory { IsErrOf result DiskError.Failed → ⊥ }
     {
         self.push(Event::MayPut(name, value, self.shows))
@@ -193,6 +195,7 @@ impl MemVolume {
         ensures writing { (other : Name) → mem_open self.new other ≡ mem_open self.old other }
         ensures stands { (other : Name) → mem_stands self.new other ≡ mem_stands self.old other }
         ensures calls { mem_calls self.new ≡ mem_calls self.old }
+        ensures shows { mem_shows self.new ≡ mem_shows self.old }
         ensures memory { IsErrOf result DiskError.Failed → ⊥ }
     {
         let behind = Bytes::new(bytes.to_vec(alloc)?);
@@ -208,6 +211,7 @@ impl MemVolume {
         ensures writing { (other : Name) → mem_open self.new other ≡ mem_open self.old other }
         ensures stands { (other : Name) → mem_stands self.new other ≡ mem_stands self.old other }
         ensures calls { mem_calls self.new ≡ mem_calls self.old }
+        ensures shows { mem_shows self.new ≡ mem_shows self.old }
         ensures memory { IsErrOf result DiskError.Failed → ⊥ }
     {
         self.put_behind(alloc, name, &bytes[..bytes.len() / 2])
@@ -261,7 +265,7 @@ impl Volume for MemVolume {
     ghost use Rattle.mg_faults.specs.Calls.{next_fails, after_call};
     ghost use Rattle.mg_faults.specs.Causes.{kept_count};
     ghost use Rattle.mg_memdisk.specs.Files.{sealed_bytes};
-    ghost use Rattle.mg_memdisk.specs.Volumes.{mem_view, mem_open, mem_stands, mem_calls, mem_log_name, Pushes, Untouched, PutsName, DoubtsName, PutsBehind};
+    ghost use Rattle.mg_memdisk.specs.Volumes.{mem_view, mem_open, mem_stands, mem_calls, mem_shows, mem_log_name, Pushes, Untouched, PutsName, DoubtsName, PutsBehind};
     ghost use Rattle.mg_memdisk.specs.declared.events.Event.TheVariants.{Sync};
     ghost use Rattle.mg_memdisk.specs.Laws.{view_leaves_contents, view_counts_now, view_only_now, contents_hold_bytes, images_hold_bytes};
     ghost use Rattle.mg_faults.proofs.CallLaws.{kept_is_bounded};
@@ -291,6 +295,7 @@ impl Volume for MemVolume {
         ensures cause { HasCause DiskError.Failed (kept_count (mem_calls self.old).faults) (kept_count (mem_calls self.new).faults) result }
         ensures once { CountsOnce (kept_count (mem_calls self.old).faults) (kept_count (mem_calls self.new).faults) result }
         ensures counted { mem_calls self.new ≡ after_call (mem_calls self.old) }
+        ensures shows { mem_shows self.new ≡ mem_shows self.old }
         ensures fails { IsErrOf result DiskError.Failed ↔ IsTrue (next_fails (mem_calls self.old)) }
         ensures same { Untouched self.old self.new }
     {
@@ -309,6 +314,7 @@ impl Volume for MemVolume {
         ensures cause { HasCause DiskError.Failed (kept_count (mem_calls self.old).faults) (kept_count (mem_calls self.new).faults) result }
         ensures once { CountsOnce (kept_count (mem_calls self.old).faults) (kept_count (mem_calls self.new).faults) result }
         ensures counted { mem_calls self.new ≡ after_call (mem_calls self.old) }
+        ensures shows { mem_shows self.new ≡ mem_shows self.old }
         ensures fails { IsErrOf result DiskError.Failed ↔ IsTrue (next_fails (mem_calls self.old)) }
         ensures same { Untouched self.old self.new }
     {
@@ -331,6 +337,7 @@ impl Volume for MemVolume {
         ensures cause { HasCause DiskError.Failed (kept_count (mem_calls self.old).faults) (kept_count (mem_calls self.new).faults) result }
         ensures once { CountsOnce (kept_count (mem_calls self.old).faults) (kept_count (mem_calls self.new).faults) result }
         ensures counted { mem_calls self.new ≡ after_call (mem_calls self.old) }
+        ensures shows { mem_shows self.new ≡ mem_shows self.old }
         ensures fails { IsErrOf result DiskError.Failed → IsTrue (next_fails (mem_calls self.old)) }
         ensures listed { OnOk result (next_fails (mem_calls self.old) ≡ false) }
         ensures happened { OnOk result (PutsName name (Some (sealed_bytes file.now)) self.old self.new) }
@@ -356,6 +363,7 @@ impl Volume for MemVolume {
         ensures cause { HasCause DiskError.Failed (kept_count (mem_calls self.old).faults) (kept_count (mem_calls self.new).faults) result }
         ensures once { CountsOnce (kept_count (mem_calls self.old).faults) (kept_count (mem_calls self.new).faults) result }
         ensures counted { mem_calls self.new ≡ after_call (mem_calls self.old) }
+        ensures shows { mem_shows self.new ≡ mem_shows self.old }
         ensures fails { IsErrOf result DiskError.Failed → IsTrue (next_fails (mem_calls self.old)) }
         ensures listed { OnOk result (next_fails (mem_calls self.old) ≡ false) }
         ensures happened { OnOk result (PutsName name (None) self.old self.new) }
@@ -388,6 +396,7 @@ impl Volume for MemVolume {
         ensures cause { HasCause DiskError.Failed (kept_count (mem_calls self.old).faults) (kept_count (mem_calls self.new).faults) result }
         ensures once { CountsOnce (kept_count (mem_calls self.old).faults) (kept_count (mem_calls self.new).faults) result }
         ensures counted { mem_calls self.new ≡ after_call (mem_calls self.old) }
+        ensures shows { mem_shows self.new ≡ mem_shows self.old }
         ensures fails { IsErrOf result DiskError.Failed → IsTrue (next_fails (mem_calls self.old)) }
         ensures listed { OnOk result (next_fails (mem_calls self.old) ≡ false) }
         ensures happened { OnOk result (PutsName name (Some []) self.old self.new) }
@@ -419,6 +428,7 @@ impl Volume for MemVolume {
         ensures cause { HasCause DiskError.Failed (kept_count (mem_calls self.old).faults) (kept_count (mem_calls self.new).faults) result }
         ensures once { CountsOnce (kept_count (mem_calls self.old).faults) (kept_count (mem_calls self.new).faults) result }
         ensures counted { mem_calls self.new ≡ after_call (mem_calls self.old) }
+        ensures shows { mem_shows self.new ≡ mem_shows self.old }
         ensures fails { IsErrOf result DiskError.Failed → IsTrue (next_fails (mem_calls self.old)) }
         ensures listed { OnOk result (next_fails (mem_calls self.old) ≡ false) }
         ensures happened { OnOk result (PutsBehind (mem_log_name log.old) bytes.now self.old self.new) }
@@ -445,6 +455,7 @@ impl Volume for MemVolume {
         ensures cause { HasCause DiskError.Failed (kept_count (mem_calls self.old).faults) (kept_count (mem_calls self.new).faults) result }
         ensures once { CountsOnce (kept_count (mem_calls self.old).faults) (kept_count (mem_calls self.new).faults) result }
         ensures counted { mem_calls self.new ≡ after_call (mem_calls self.old) }
+        ensures shows { mem_shows self.new ≡ mem_shows self.old }
         ensures fails { IsErrOf result DiskError.Failed ↔ IsTrue (next_fails (mem_calls self.old)) }
         ensures happened { OnOk result (Pushes (Sync (mem_log_name log.old)) self.old self.new) }
         ensures same { OnErr result (Untouched self.old self.new) }
@@ -463,6 +474,7 @@ impl Volume for MemVolume {
         ensures cause { HasCause DiskError.Failed (kept_count (mem_calls self.old).faults) (kept_count (mem_calls self.new).faults) result }
         ensures once { CountsOnce (kept_count (mem_calls self.old).faults) (kept_count (mem_calls self.new).faults) result }
         ensures counted { mem_calls self.new ≡ after_call (mem_calls self.old) }
+        ensures shows { mem_shows self.new ≡ mem_shows self.old }
         ensures fails { IsErrOf result DiskError.Failed ↔ IsTrue (next_fails (mem_calls self.old)) }
         ensures same { Untouched self.old self.new }
     {
@@ -487,6 +499,7 @@ impl Volume for MemVolume {
         ensures cause { HasCause DiskError.Failed (kept_count (mem_calls self.old).faults) (kept_count (mem_calls self.new).faults) result }
         ensures once { CountsOnce (kept_count (mem_calls self.old).faults) (kept_count (mem_calls self.new).faults) result }
         ensures counted { mem_calls self.new ≡ after_call (mem_calls self.old) }
+        ensures shows { mem_shows self.new ≡ mem_shows self.old }
         ensures fails { IsErrOf result DiskError.Failed ↔ IsTrue (next_fails (mem_calls self.old)) }
         ensures same { Untouched self.old self.new }
     {
