@@ -1,7 +1,7 @@
 //! A frame is the body's length (4 bytes), the frame's number (8 bytes), the body, and the first 8 bytes of the SHA-256
 //! digest (FIPS 180-4) of all that. Numbers are big-endian.
 
-ghost use Rattle.std.specs.Prelude.{◌≡◌, ◌+◌, ◌++◌, ◌<◌, ◌≤◌, ◌^◌, ℕ, List, length, IfOk, OnOk, OnErr};
+ghost use Rattle.std.specs.Prelude.{◌≡◌, ◌+◌, ◌++◌, ◌<◌, ◌≤◌, ◌^◌, ℕ, List, length, drop, IfOk, OnOk, OnErr};
 ghost use Rattle.mg_frame.specs.Frame.{digest, frame, frame_header, said_length, compared, judged, taken, Means, TakesWritten, EndsLog};
 
 use crate::fields::{front_u32, front_u64};
@@ -86,6 +86,7 @@ pub fn end_frame(start: usize, out: &mut Vec<u8>) -> Result<(), AllocError>
     ensures ok { (before : List ℕ) (number : ℕ) (body : List ℕ) → length before ≡ start
         → out.old.items ≡ before ++ (frame_header number (length body) ++ body)
         → OnOk result (out.new.items ≡ before ++ frame number body) }
+    ensures digest { OnOk result (out.new.items ≡ out.old.items ++ digest (drop start out.old.items)) }
     ensures err { OnErr result (out.new.items ≡ out.old.items) }
 {
     let digest = digest(&out[start..]);
