@@ -29,51 +29,51 @@ use Rattle.mg_indexed.proofs.LoadingSteps.{Under, under_then}
 abbrev pub OfBody : Type 1
 OfBody = BlockHandle (List ℕ) → List ℕ → Fault → Type 0
 
-pub frame_refused : {S : Type 0} (told : Option (List ℕ)) (table : Table S) (k : ℕ) (handle : BlockHandle (List ℕ)) (Unfit : OfBody) (fault : Fault) → k < length table.index
-    → handle ≡ get_or table.index k handle → Under told table.file.len (λ bytes. Answers (read_at table.file.id bytes handle k) (Err fault))
-    → Under told table.file.len (λ bytes. IsOutside fault ⊎ IsBlockRefused table bytes k Unfit fault)
+pub frame_refused : {S : Type 0} (told : Option (List ℕ)) (table : Table S) (k : ℕ) (handle : BlockHandle (List ℕ)) (Unfit : OfBody) (fault : Fault) → k < length table.indexed.index
+    → handle ≡ get_or table.indexed.index k handle → Under told table.indexed.file.len (λ bytes. Answers (read_at table.indexed.file.id bytes handle k) (Err fault))
+    → Under told table.indexed.file.len (λ bytes. IsOutside fault ⊎ IsBlockRefused table bytes k Unfit fault)
 frame_refused told table k handle Unfit fault within there known =
-    under_then told table.file.len (λ bytes. Answers (read_at table.file.id bytes handle k) (Err fault)) (λ bytes. IsOutside fault ⊎ IsBlockRefused table bytes k Unfit fault)
+    under_then told table.indexed.file.len (λ bytes. Answers (read_at table.indexed.file.id bytes handle k) (Err fault)) (λ bytes. IsOutside fault ⊎ IsBlockRefused table bytes k Unfit fault)
     (λ bytes same h. elim h [
       | inl outside ↦ inl outside
-      | inr is ↦ inr (within, at_read table.index (IsRefusedAt table.file.id bytes k Unfit fault) k handle within there (inl is))
+      | inr is ↦ inr (within, at_read table.indexed.index (IsRefusedAt table.indexed.file.id bytes k Unfit fault) k handle within there (inl is))
     ]) known
 
-pub body_refused : {S : Type 0} (told : Option (List ℕ)) (table : Table S) (k : ℕ) (handle : BlockHandle (List ℕ)) (Unfit : OfBody) (fault : Fault) (frame : List ℕ) → k < length table.index
-    → handle ≡ get_or table.index k handle → (fault ≡ NoMemory) ⊎ Unfit handle frame fault → Under told table.file.len (λ bytes. read_at table.file.id bytes handle k ≡ Ok frame)
-    → Under told table.file.len (λ bytes. IsOutside fault ⊎ IsBlockRefused table bytes k Unfit fault)
+pub body_refused : {S : Type 0} (told : Option (List ℕ)) (table : Table S) (k : ℕ) (handle : BlockHandle (List ℕ)) (Unfit : OfBody) (fault : Fault) (frame : List ℕ) → k < length table.indexed.index
+    → handle ≡ get_or table.indexed.index k handle → (fault ≡ NoMemory) ⊎ Unfit handle frame fault → Under told table.indexed.file.len (λ bytes. read_at table.indexed.file.id bytes handle k ≡ Ok frame)
+    → Under told table.indexed.file.len (λ bytes. IsOutside fault ⊎ IsBlockRefused table bytes k Unfit fault)
 body_refused told table k handle Unfit fault frame within there why known =
-    under_then told table.file.len (λ bytes. read_at table.file.id bytes handle k ≡ Ok frame) (λ bytes. IsOutside fault ⊎ IsBlockRefused table bytes k Unfit fault)
+    under_then told table.indexed.file.len (λ bytes. read_at table.indexed.file.id bytes handle k ≡ Ok frame) (λ bytes. IsOutside fault ⊎ IsBlockRefused table bytes k Unfit fault)
     (λ bytes same h. elim why [
       | inl memory ↦ inl (inl memory)
-      | inr unfit ↦ inr (within, at_read table.index (IsRefusedAt table.file.id bytes k Unfit fault) k handle within there (inr (frame, h, unfit)))
+      | inr unfit ↦ inr (within, at_read table.indexed.index (IsRefusedAt table.indexed.file.id bytes k Unfit fault) k handle within there (inr (frame, h, unfit)))
     ]) known
 
 -- a block that is refused keeps its table from finding a key
 pub find_refused : {S : Type 0} (told : Option (List ℕ)) (table : Table S) (key : List ℕ) (k : ℕ) (fault : Fault) → IsSoughtIn table key k
-    → Under told table.file.len (λ bytes. IsOutside fault ⊎ IsBlockRefused table bytes k (λ (p : BlockHandle (List ℕ)) body. IsFindUnfit table.file.id p body key) fault)
-    → Under told table.file.len (λ bytes. IsOutside fault ⊎ IsFindRefused table bytes key fault)
+    → Under told table.indexed.file.len (λ bytes. IsOutside fault ⊎ IsBlockRefused table bytes k (λ (p : BlockHandle (List ℕ)) body. IsFindUnfit table.indexed.file.id p body key) fault)
+    → Under told table.indexed.file.len (λ bytes. IsOutside fault ⊎ IsFindRefused table bytes key fault)
 find_refused told table key k fault sought known =
-    under_then told table.file.len (λ bytes. IsOutside fault ⊎ IsBlockRefused table bytes k (λ (p : BlockHandle (List ℕ)) body. IsFindUnfit table.file.id p body key) fault)
+    under_then told table.indexed.file.len (λ bytes. IsOutside fault ⊎ IsBlockRefused table bytes k (λ (p : BlockHandle (List ℕ)) body. IsFindUnfit table.indexed.file.id p body key) fault)
     (λ bytes. IsOutside fault ⊎ IsFindRefused table bytes key fault)
     (λ bytes same h. elim h [ inl outside ↦ inl outside | inr is ↦ inr (k, sought, is) ]) known
 
 -- what is so of the body that was read is so of a body at the handle in the index
-body-at : {S : Type 0} (table : Table S) (bytes : List ℕ) (k : ℕ) (handle : BlockHandle (List ℕ)) (frame : List ℕ) (P : List ℕ → Type 0) → k < length table.index
-    → handle ≡ get_or table.index k handle → read_at table.file.id bytes handle k ≡ Ok frame → BeginsWithKey frame handle.first → P frame → HasBody table bytes k P
+body-at : {S : Type 0} (table : Table S) (bytes : List ℕ) (k : ℕ) (handle : BlockHandle (List ℕ)) (frame : List ℕ) (P : List ℕ → Type 0) → k < length table.indexed.index
+    → handle ≡ get_or table.indexed.index k handle → read_at table.indexed.file.id bytes handle k ≡ Ok frame → BeginsWithKey frame handle.first → P frame → HasBody table bytes k P
 body-at table bytes k handle frame P within there read begins is =
-    at_read table.index (λ (p : BlockHandle (List ℕ)). (body : List ℕ) × (read_at table.file.id bytes p k ≡ Ok body) × BeginsWithKey body p.first × P body) k handle within there
+    at_read table.indexed.index (λ (p : BlockHandle (List ℕ)). (body : List ℕ) × (read_at table.indexed.file.id bytes p k ≡ Ok body) × BeginsWithKey body p.first × P body) k handle within there
     (frame, read, begins, is)
 
 pub find_read : {S : Type 0} (told : Option (List ℕ)) (table : Table S) (key : List ℕ) (k : ℕ) (handle : BlockHandle (List ℕ)) (frame : List ℕ) (found : Option Entry) → IsSoughtIn table key k
-    → handle ≡ get_or table.index k handle → BeginsWithKey frame handle.first
+    → handle ≡ get_or table.indexed.index k handle → BeginsWithKey frame handle.first
     → MatchOption found (Misses frame key) (λ entry. (entry.key ≡ key) × IsEntry entry × Finds frame key (payload_of entry))
-    → Under told table.file.len (λ bytes. read_at table.file.id bytes handle k ≡ Ok frame) → Under told table.file.len (λ bytes. IsFindRead table bytes key found)
+    → Under told table.indexed.file.len (λ bytes. read_at table.indexed.file.id bytes handle k ≡ Ok frame) → Under told table.indexed.file.len (λ bytes. IsFindRead table bytes key found)
 find_read told table key k handle frame None sought there begins misses read =
-    under_then told table.file.len (λ bytes. read_at table.file.id bytes handle k ≡ Ok frame) (λ bytes. IsFindRead table bytes key None)
+    under_then told table.indexed.file.len (λ bytes. read_at table.indexed.file.id bytes handle k ≡ Ok frame) (λ bytes. IsFindRead table bytes key None)
     (λ bytes same h. inr (k, sought, body-at table bytes k handle frame (λ body. Misses body key) sought.within there h begins misses)) read
 find_read told table key k handle frame (Some entry) sought there begins is read =
-    under_then told table.file.len (λ bytes. read_at table.file.id bytes handle k ≡ Ok frame) (λ bytes. IsFindRead table bytes key (Some entry))
+    under_then told table.indexed.file.len (λ bytes. read_at table.indexed.file.id bytes handle k ≡ Ok frame) (λ bytes. IsFindRead table bytes key (Some entry))
     (λ bytes same h. (is.0, is.1, (k, sought, body-at table bytes k handle frame (λ body. Finds body key (payload_of entry)) sought.within there h begins is.2))) read
 
 -- ---- what is listed of a block

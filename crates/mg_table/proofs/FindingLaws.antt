@@ -110,13 +110,6 @@ none-denied key filter entries is denied =
 
 -- ---- by the index
 
--- Behind so many blocks one begins above the key, and the last of these does not.
-pub record Between (index : List (BlockHandle (List ℕ))) (key : List ℕ) (low high : ℕ) : Type 0 where
-  pub order : low ≤ high
-  pub within : high ≤ length index
-  pub last : 0 < low → HoldsAt (λ handle. Precedes key handle.first → ⊥) index (low - 1)
-  pub following : high < length index → HoldsAt (λ handle. Precedes key handle.first) index high
-
 key-at : (blocks : List (List Entry)) (k : ℕ) (p : BlockHandle (List ℕ)) → k < length blocks → (get_or (handles_from 0 blocks) k p).first ≡ first_key (get_or blocks k [])
 key-at blocks k p within = ap (λ (handle : BlockHandle (List ℕ)). handle.first) (handle-at 0 blocks k p [] within)
 
@@ -171,7 +164,7 @@ chosen lo hi entries blocks filter key index n (Some number) is indexed within l
     (λ more. subst (λ (k : ℕ). HoldsAt (λ (handle : BlockHandle (List ℕ)). Precedes key handle.first) index k) step (following (omega arith)))
 
 -- where the key is sought, if in any block
-pub sought : {S : Type 0} (table : Table S) (key : List ℕ) (index : List (BlockHandle (List ℕ))) (n : ℕ) (number : Option ℕ) → index ≡ table.index → has_words table.filter (key_words key) ≡ true
+pub sought : {S : Type 0} (table : Table S) (key : List ℕ) (index : List (BlockHandle (List ℕ))) (n : ℕ) (number : Option ℕ) → index ≡ table.indexed.index → has_words table.filter (key_words key) ≡ true
     → n ≤ length index → (0 < n → HoldsAt (λ handle. Precedes key handle.first → ⊥) index (n - 1)) → (n < length index → HoldsAt (λ handle. Precedes key handle.first) index n)
     → SomeIff number (1 ≤ n) (n - 1) → MatchOption number (IsSoughtNowhere table key) (λ number. IsSoughtIn table key number)
 sought table key index n None same held within last following before =

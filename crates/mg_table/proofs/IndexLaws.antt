@@ -1,16 +1,12 @@
 -- The index of blocks, with one more.
-use Rattle.std.proofs.Common.{◌≡◌, ℕ, ◌+◌, ◌*◌, ◌≤◌, List, [], ◌∷◌, ◌++◌, length, map, refl, sym, ap, ◌∙◌, arith, append_assoc}
-use Rattle.std.proofs.lemmas.List.{append-nil, length-append}
+use Rattle.std.proofs.Common.{◌≡◌, ℕ, ◌+◌, List, [], ◌∷◌, ◌++◌, length, map, refl, ap, ◌∙◌, arith}
+use Rattle.std.proofs.lemmas.List.{length-append}
 use Rattle.std.specs.List.{enumerate_from}
-use Rattle.mg_frame.specs.BigEndian.{big_endian, counted}
 use Rattle.mg_frame.specs.Frame.{frame}
 use Rattle.mg_frame.specs.Frames.{frames, numbered_frames}
-use Rattle.mg_frame.proofs.BigEndianLaws.{length-big_endian}
 use Rattle.mg_frame.proofs.FrameLaws.{length-frame}
 use Rattle.mg_table.specs.Entries.{block_body, first_key}
 use Rattle.mg_table.specs.Index.{frame_length, handles_from}
-use Rattle.mg_indexed.specs.Index.{index_bytes, handle_bytes}
-use Rattle.mg_indexed.specs.TableKeys.{table_keys}
 use Rattle.mg_types.specs.declared.items.Entry.{Entry}
 use Rattle.mg_indexed.specs.declared.handle.BlockHandle.{BlockHandle}
 

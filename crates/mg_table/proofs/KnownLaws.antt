@@ -1,5 +1,5 @@
 -- What is known of a file where its port tells that it is a table.
-use Rattle.std.proofs.Common.{◌≡◌, ℕ, ◌+◌, ◌≤◌, List, length, refl, sym, ap, ◌∙◌, subst, arith, Option, Some, None, IfSome, Result, Ok, Err, MatchResult}
+use Rattle.std.proofs.Common.{◌≡◌, ℕ, ◌+◌, List, length, refl, sym, ap, ◌∙◌, subst, Option, Some, None, IfSome, Result, Ok, Err, MatchResult}
 use Rattle.mg_frame.specs.Frames.{numbered_frames}
 use Rattle.mg_types.specs.declared.faults.Fault.{Fault}
 use Rattle.mg_types.specs.declared.names.FileId.{FileId}
@@ -66,56 +66,56 @@ knows_loaded (Some bytes) len result known = λ lo hi entries is same. known (fo
 abbrev pub Loaded : {S : Type 0} → (S → Option (List ℕ)) → Option (List ℕ) → ℕ → Result (Table S) Fault → Type 0
 Loaded told known len result =
     IfSome known (λ bytes. (lo hi : ℕ) (entries : List Entry) → IsTable bytes lo hi entries → length bytes ≡ len →
-    MatchResult result (λ table. Represents told table entries × (table.footer.low ≡ lo) × (table.footer.high ≡ hi)) (λ fault. IsOutside fault))
+    MatchResult result (λ table. Represents told table entries × (table.indexed.footer.low ≡ lo) × (table.indexed.footer.high ≡ hi)) (λ fault. IsOutside fault))
 
 -- an error that comes from outside, whatever the table is
 pub outside_err : {S : Type 0} (told : S → Option (List ℕ)) (known : Option (List ℕ)) (len : ℕ) (result : Result (Table S) Fault) (fault : Fault) → result ≡ Err fault
     → Knows known len (λ _ _ _ _. IsOutside fault) → Loaded told known len result
 outside_err told None len result fault is knows = tt
 outside_err {S} told (Some bytes) len result fault is knows = λ lo hi entries table same.
-    subst (λ (r : Result (Table S) Fault). MatchResult r (λ t. Represents told t entries × (t.footer.low ≡ lo) × (t.footer.high ≡ hi)) (λ f. IsOutside f)) (sym is) (knows lo hi entries table same)
+    subst (λ (r : Result (Table S) Fault). MatchResult r (λ t. Represents told t entries × (t.indexed.footer.low ≡ lo) × (t.indexed.footer.high ≡ hi)) (λ f. IsOutside f)) (sym is) (knows lo hi entries table same)
 
 -- what is kept of a file is what its table says
 abbrev pub Keeps : {S : Type 0} → Table S → Of
-Keeps table lo hi blocks filter = (table.footer ≡ footer_of lo hi blocks filter) × ((table.index ≡ handles_from 0 blocks) × (table.filter ≡ filter))
+Keeps table lo hi blocks filter = (table.indexed.footer ≡ footer_of lo hi blocks filter) × ((table.indexed.index ≡ handles_from 0 blocks) × (table.filter ≡ filter))
 
 -- the bytes of a table, over the interval and the filter of its footer
 stands : {S : Type 0} (told : S → Option (List ℕ)) (table : Table S) (bytes : List ℕ) (lo hi : ℕ) (entries : List Entry) (is : IsTable bytes lo hi entries)
-    → told table.file.file ≡ Some bytes → length bytes ≡ table.file.len → Keeps table lo hi is.blocks is.filter → Represents told table entries × (table.footer.low ≡ lo) × (table.footer.high ≡ hi)
+    → told table.indexed.file.file ≡ Some bytes → length bytes ≡ table.indexed.file.len → Keeps table lo hi is.blocks is.filter → Represents told table entries × (table.indexed.footer.low ≡ lo) × (table.indexed.footer.high ≡ hi)
 stands told table bytes lo hi entries is tells same keeps =
-    let from : table.footer.low ≡ lo = ap (λ (f : Footer). f.low) keeps.0 in
-    let to : table.footer.high ≡ hi = ap (λ (f : Footer). f.high) keeps.0 in
+    let from : table.indexed.footer.low ≡ lo = ap (λ (f : Footer). f.low) keeps.0 in
+    let to : table.indexed.footer.high ≡ hi = ap (λ (f : Footer). f.high) keeps.0 in
     let filter : table.filter ≡ is.filter = keeps.1.1 in
-    let parts : IsTableOf table.footer.low table.footer.high entries is.blocks table.filter =
-    subst (λ (n : ℕ). IsTableOf n table.footer.high entries is.blocks table.filter) (sym from)
+    let parts : IsTableOf table.indexed.footer.low table.indexed.footer.high entries is.blocks table.filter =
+    subst (λ (n : ℕ). IsTableOf n table.indexed.footer.high entries is.blocks table.filter) (sym from)
     (subst (λ (n : ℕ). IsTableOf lo n entries is.blocks table.filter) (sym to) (subst (λ (f : List ℕ). IsTableOf lo hi entries is.blocks f) (sym filter) is.parts)) in
-    let footer : table.footer ≡ footer_of table.footer.low table.footer.high is.blocks table.filter =
-    keeps.0 ∙ ap (λ (n : ℕ). footer_of n hi is.blocks is.filter) (sym from) ∙ ap (λ (n : ℕ). footer_of table.footer.low n is.blocks is.filter) (sym to) in
-    let bytes_are : bytes ≡ numbered_frames (table_bodies table.footer.low table.footer.high is.blocks table.filter) =
+    let footer : table.indexed.footer ≡ footer_of table.indexed.footer.low table.indexed.footer.high is.blocks table.filter =
+    keeps.0 ∙ ap (λ (n : ℕ). footer_of n hi is.blocks is.filter) (sym from) ∙ ap (λ (n : ℕ). footer_of table.indexed.footer.low n is.blocks is.filter) (sym to) in
+    let bytes_are : bytes ≡ numbered_frames (table_bodies table.indexed.footer.low table.indexed.footer.high is.blocks table.filter) =
     is.bytes_are
     ∙ ap (λ (n : ℕ). numbered_frames (table_bodies n hi is.blocks is.filter)) (sym from)
-    ∙ ap (λ (n : ℕ). numbered_frames (table_bodies table.footer.low n is.blocks is.filter)) (sym to)
-    ∙ ap (λ (f : List ℕ). numbered_frames (table_bodies table.footer.low table.footer.high is.blocks f)) (sym filter) in (
+    ∙ ap (λ (n : ℕ). numbered_frames (table_bodies table.indexed.footer.low n is.blocks is.filter)) (sym to)
+    ∙ ap (λ (f : List ℕ). numbered_frames (table_bodies table.indexed.footer.low table.indexed.footer.high is.blocks f)) (sym filter) in (
       record {
         blocks = is.blocks;
         parts = parts;
         footer = footer;
         index = keeps.1.0;
         len = sym same ∙ ap length bytes_are;
-        file = subst (λ (o : Option (List ℕ)). IfSome o (λ b. b ≡ numbered_frames (table_bodies table.footer.low table.footer.high is.blocks table.filter))) (sym tells) bytes_are;
+        file = subst (λ (o : Option (List ℕ)). IfSome o (λ b. b ≡ numbered_frames (table_bodies table.indexed.footer.low table.indexed.footer.high is.blocks table.filter))) (sym tells) bytes_are;
       },
       from,
       to,
     )
 
 loads_known : {S : Type 0} (told : S → Option (List ℕ)) (file : S) (known : Option (List ℕ)) (table : Table S) (len : ℕ) → told file ≡ known
-    → table.file.file ≡ file → table.file.len ≡ len → Knows known len (Keeps table) → Loaded told known len (Ok table)
+    → table.indexed.file.file ≡ file → table.indexed.file.len ≡ len → Knows known len (Keeps table) → Loaded told known len (Ok table)
 loads_known told file None table len tells handle same knows = tt
 loads_known told file (Some bytes) table len tells handle same knows = λ lo hi entries is long.
     stands told table bytes lo hi entries is (ap told handle ∙ tells) (long ∙ sym same) (knows lo hi entries is long)
 
 pub loads : {S : Type 0} (told : S → Option (List ℕ)) (file : S) (table : Table S) (len : ℕ)
-    → table.file.file ≡ file → table.file.len ≡ len → Knows (told file) len (Keeps table) → Loaded told (told file) len (Ok table)
+    → table.indexed.file.file ≡ file → table.indexed.file.len ≡ len → Knows (told file) len (Keeps table) → Loaded told (told file) len (Ok table)
 loads told file table len handle same knows = loads_known told file (told file) table len refl handle same knows
 
 -- what is known of the file that was opened is known of the one that was given

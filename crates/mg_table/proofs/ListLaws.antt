@@ -1,6 +1,6 @@
 -- Bytes are the table of one list of entries over one interval.
-use Rattle.std.proofs.Common.{true, ◌≡◌, ℕ, ◌+◌, ◌<◌, ◌^◌, Bool, List, [], ◌∷◌, ◌++◌, length, map, drop, refl, sym, ap, ◌∙◌, arith, append_assoc, Ok}
-use Rattle.std.proofs.lemmas.List.{drop_at, length-append, length-map, map-append}
+use Rattle.std.proofs.Common.{true, ◌≡◌, ℕ, ◌+◌, ◌<◌, ◌^◌, Bool, List, [], ◌∷◌, ◌++◌, length, map, refl, sym, ap, ◌∙◌, arith, Ok}
+use Rattle.std.proofs.lemmas.List.{length-append, length-map, map-append}
 use Rattle.std.proofs.lemmas.List.Elements.{All-append, All-cons, All-head, All-nil, All-tail}
 use Rattle.std.specs.List.{All}
 use Rattle.mg_block.specs.View.{pairs_of}
@@ -12,7 +12,7 @@ use Rattle.mg_sealed.specs.Lists.{FitFrames}
 use Rattle.mg_sealed.proofs.ListLaws.{one_list_of_frames, same_parts}
 use Rattle.mg_table.specs.Entries.{block_body, first_key, pair_of, payload_of}
 use Rattle.mg_types.specs.Items.{IsEntry}
-use Rattle.mg_indexed.specs.Footer.{footer_bytes, IsFooter}
+use Rattle.mg_indexed.specs.Footer.{footer_bytes}
 use Rattle.mg_table.specs.Index.{frame_length, handles_from}
 use Rattle.mg_indexed.specs.Index.{index_bytes, IsIndexFrom}
 use Rattle.mg_indexed.specs.TableKeys.{table_keys}

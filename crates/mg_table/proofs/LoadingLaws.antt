@@ -1,7 +1,7 @@
 -- The footer, the index and the filter of a table are those that a loader asks for.
-use Rattle.std.proofs.Common.{true, ◌≡◌, ◌≢◌, ℕ, ◌+◌, ◌-◌, ◌*◌, ◌/◌, ◌<◌, ◌≤◌, ◌^◌, ◌⊎◌, suc, List, [], ◌∷◌, ◌++◌, length, map, refl, sym, ap, ◌∙◌, subst, inl, inr, arith, append_assoc, Ok}
+use Rattle.std.proofs.Common.{true, ◌≡◌, ◌≢◌, ℕ, ◌+◌, ◌*◌, ◌/◌, ◌<◌, ◌≤◌, ◌^◌, ◌⊎◌, suc, List, [], ◌∷◌, ◌++◌, length, map, refl, sym, ap, ◌∙◌, subst, inl, inr, arith, append_assoc, Ok}
 use Rattle.std.proofs.lemmas.List.{length-append, length-drop, length-map}
-use Rattle.std.proofs.lemmas.List.Elements.{All-cons, All-head, All-nil, All-tail}
+use Rattle.std.proofs.lemmas.List.Elements.{All-head, All-tail}
 use Rattle.std.proofs.lemmas.List.Sums.{sum_by-cons}
 use Rattle.std.specs.List.{All}
 use Rattle.mg_block.specs.Block.{item_of, items_after, shared_len, Follows, Precedes, RiseAfter}
@@ -23,13 +23,12 @@ use Rattle.mg_types.specs.Items.{IsEntry}
 use Rattle.mg_table.specs.Filters.{IsFilterOf}
 use Rattle.mg_indexed.specs.Footer.{footer_bytes, offset_of, IsFooter}
 use Rattle.mg_indexed.specs.Loading.{IsIndexed}
-use Rattle.mg_table.specs.Index.{frame_length, handles_from, IsHandle}
+use Rattle.mg_table.specs.Index.{frame_length, handles_from}
 use Rattle.mg_indexed.specs.Index.{index_bytes, IsIndexFrom}
 use Rattle.mg_indexed.specs.TableKeys.{table_keys}
 use Rattle.mg_indexed.specs.Forms.{table_form, IsFrameLength}
 use Rattle.mg_table.specs.Table.{footer_of, hashed_keys, sizes_of, table_bodies, IsTable, IsTableOf}
 use Rattle.mg_types.specs.declared.items.Entry.{Entry}
-use Rattle.mg_indexed.specs.declared.handle.BlockHandle.{BlockHandle}
 use Rattle.mg_table.proofs.EntryLaws.{above-none, length-payload_of, one-fits}
 use Rattle.mg_indexed.proofs.FieldLaws.{length-footer_bytes}
 use Rattle.mg_indexed.proofs.HandleLaws.{least-index_bytes}
@@ -52,7 +51,7 @@ rise_behind previous [] ys rise = rise
 rise_behind previous (x ∷ xs) ys rise = rise_behind x.key xs ys rise.1
 
 -- one key is another, or stands before it
-abbrev IsUpTo : List ℕ → List ℕ → Type 0
+abbrev pub IsUpTo : List ℕ → List ℕ → Type 0
 IsUpTo key other = (key ≡ other) ⊎ Precedes key other
 
 last_above : (key : List ℕ) (entries : List Entry) → RiseAfter key (map pair_of entries) → IsUpTo key (last_key key entries)
@@ -63,7 +62,7 @@ last_above key (entry ∷ entries) rise = elim (last_above entry.key entries ris
   | inr above ↦ inr (Precedes-trans key entry.key (last_key entry.key entries) rise.0.rises above)
 ]
 
-above_both : (key previous next : List ℕ) → IsUpTo key previous → Precedes previous next → Precedes key next
+pub above_both : (key previous next : List ℕ) → IsUpTo key previous → Precedes previous next → Precedes key next
 above_both key previous next (inl same) above = subst (λ (k : List ℕ). Precedes k next) (sym same) above
 above_both key previous next (inr below) above = Precedes-trans key previous next below above
 
@@ -154,12 +153,6 @@ index_is key previous at ((x ∷ b) ∷ blocks) up filled rise room =
       ((above_both key previous x.key up rise.0.rises, rise.0.key), refl, omega (arith, room), fits),
       subst (λ end. IsIndexFrom table_keys table_form x.key later (handles_from later blocks) end) ends rest,
     )
-
--- each item of an index is a handle
-pub places_fit : (key : List ℕ) (at : ℕ) (handles : List (BlockHandle (List ℕ))) (end : ℕ) → IsIndexFrom table_keys table_form key at handles end → All IsHandle handles
-places_fit key at [] end is = All-nil IsHandle
-places_fit key at (handle ∷ handles) end is =
-    All-cons IsHandle handle handles (record { key = is.0.0.1; at = omega (arith, is.0.1, is.0.2) }) (places_fit handle.first (at + handle.len) handles end is.1)
 
 -- ---- a table
 

@@ -106,11 +106,11 @@ block-frame id blocks others k d within few small =
 
 -- what is read of the block whose handle is this
 abbrev pub read_at : {S : Type 0} → Table S → List ℕ → BlockHandle (List ℕ) → ℕ → Result (List ℕ) Fault
-read_at table bytes handle k = file.block_body table.file.id bytes handle.at handle.len k
+read_at table bytes handle k = file.block_body table.indexed.file.id bytes handle.at handle.len k
 
 -- each block of a table is read at its handle
 pub block-read : {S : Type 0} (told : S → Option (List ℕ)) (table : Table S) (entries : List Entry) (stands : Represents told table entries) (bytes : List ℕ)
-    → told table.file.file ≡ Some bytes → (handle : BlockHandle (List ℕ)) (k : ℕ) → k < length table.index → handle ≡ get_or table.index k handle
+    → told table.indexed.file.file ≡ Some bytes → (handle : BlockHandle (List ℕ)) (k : ℕ) → k < length table.indexed.index → handle ≡ get_or table.indexed.index k handle
     → (d : List Entry) → read_at table bytes handle k ≡ Ok (block_body (get_or stands.blocks k d))
 unfolding file.block_body
 block-read {S} told table entries stands bytes tells handle k within is d =
@@ -123,23 +123,23 @@ block-read {S} told table entries stands bytes tells handle k within is d =
     let there : handle ≡ place_behind (total (take k blocks)) block =
     is ∙ ap (λ ps. get_or ps k handle) stands.index ∙ handle-at 0 blocks k handle d inside ∙ ap (λ n. place_behind n block) (omega arith) in
     let file = stands.file in
-    let written : bytes ≡ numbered_frames (table_bodies table.footer.low table.footer.high blocks table.filter) =
-    subst (λ o. IfSome o (λ bs. bs ≡ numbered_frames (table_bodies table.footer.low table.footer.high blocks table.filter))) tells file in
-    let rest = index_bytes table_keys (handles_from 0 blocks) ∷ table.filter ∷ footer_bytes (footer_of table.footer.low table.footer.high blocks table.filter) ∷ [] in
-    let frame : frame_body table.file.id bytes (total (take k blocks)) k ≡ Ok (block_body block) =
-    ap (λ bs. frame_body table.file.id bs (total (take k blocks)) k) written ∙ block-frame table.file.id blocks rest k d inside (few_blocks blocks parts.listed.few) small in
+    let written : bytes ≡ numbered_frames (table_bodies table.indexed.footer.low table.indexed.footer.high blocks table.filter) =
+    subst (λ o. IfSome o (λ bs. bs ≡ numbered_frames (table_bodies table.indexed.footer.low table.indexed.footer.high blocks table.filter))) tells file in
+    let rest = index_bytes table_keys (handles_from 0 blocks) ∷ table.filter ∷ footer_bytes (footer_of table.indexed.footer.low table.indexed.footer.high blocks table.filter) ∷ [] in
+    let frame : frame_body table.indexed.file.id bytes (total (take k blocks)) k ≡ Ok (block_body block) =
+    ap (λ bs. frame_body table.indexed.file.id bs (total (take k blocks)) k) written ∙ block-frame table.indexed.file.id blocks rest k d inside (few_blocks blocks parts.listed.few) small in
     rw (there, frame, eq-eqb (length (block_body block) + 20) (length (block_body block) + 20) refl) refl
 
 pub told-length : {S : Type 0} (told : S → Option (List ℕ)) (table : Table S) (entries : List Entry) (stands : Represents told table entries) (bytes : List ℕ)
-    → told table.file.file ≡ Some bytes → table.file.len ≡ length bytes
+    → told table.indexed.file.file ≡ Some bytes → table.indexed.file.len ≡ length bytes
 told-length {S} told table entries stands bytes tells =
-    let written : bytes ≡ numbered_frames (table_bodies table.footer.low table.footer.high stands.blocks table.filter) =
-    subst (λ o. IfSome o (λ bs. bs ≡ numbered_frames (table_bodies table.footer.low table.footer.high stands.blocks table.filter))) tells stands.file in
+    let written : bytes ≡ numbered_frames (table_bodies table.indexed.footer.low table.indexed.footer.high stands.blocks table.filter) =
+    subst (λ o. IfSome o (λ bs. bs ≡ numbered_frames (table_bodies table.indexed.footer.low table.indexed.footer.high stands.blocks table.filter))) tells stands.file in
     stands.len ∙ sym (ap length written)
 
 -- each block of a table is the block of entries of it
 pub block-is : {S : Type 0} (told : S → Option (List ℕ)) (table : Table S) (entries : List Entry) (stands : Represents told table entries) (k : ℕ) (d : List Entry)
-    → k < length table.index → AreEntries (get_or stands.blocks k d)
+    → k < length table.indexed.index → AreEntries (get_or stands.blocks k d)
 block-is told table entries stands k d within =
     block-entries stands.blocks k d (subst AreEntries (sym stands.parts.listed.whole) stands.parts.listed.rising) (omega (arith, ap length stands.index, length-handles_from 0 stands.blocks))
 
@@ -151,16 +151,16 @@ told-then (Some bytes) P Q step known = step bytes refl known
 
 -- a block of a table is refused only from outside
 pub block-refused : {S : Type 0} (told : S → Option (List ℕ)) (table : Table S) (entries : List Entry) (stands : Represents told table entries) (bytes : List ℕ)
-    → told table.file.file ≡ Some bytes → (handle : BlockHandle (List ℕ)) (k : ℕ) → k < length table.index → handle ≡ get_or table.index k handle → (fault : Fault)
-    → (table.file.len ≡ length bytes → Answers (read_at table bytes handle k) (Err fault)) → IsOutside fault
+    → told table.indexed.file.file ≡ Some bytes → (handle : BlockHandle (List ℕ)) (k : ℕ) → k < length table.indexed.index → handle ≡ get_or table.indexed.index k handle → (fault : Fault)
+    → (table.indexed.file.len ≡ length bytes → Answers (read_at table bytes handle k) (Err fault)) → IsOutside fault
 block-refused told table entries stands bytes tells handle k within is fault known =
     refused (block_body (get_or stands.blocks k [])) (read_at table bytes handle k) fault (block-read told table entries stands bytes tells handle k within is [])
     (known (told-length told table entries stands bytes tells))
 
 -- what is read of one is the block of its entries
 pub block-answered : {S : Type 0} (told : S → Option (List ℕ)) (table : Table S) (entries : List Entry) (stands : Represents told table entries) (bytes : List ℕ)
-    → told table.file.file ≡ Some bytes → (handle : BlockHandle (List ℕ)) (k : ℕ) → k < length table.index → handle ≡ get_or table.index k handle → (frame : List ℕ)
-    → (table.file.len ≡ length bytes → Answers (read_at table bytes handle k) (Ok frame)) → (d : List Entry)
+    → told table.indexed.file.file ≡ Some bytes → (handle : BlockHandle (List ℕ)) (k : ℕ) → k < length table.indexed.index → handle ≡ get_or table.indexed.index k handle → (frame : List ℕ)
+    → (table.indexed.file.len ≡ length bytes → Answers (read_at table bytes handle k) (Ok frame)) → (d : List Entry)
     → IsBlock frame (map pair_of (get_or stands.blocks k d)) × All IsEntry (get_or stands.blocks k d)
 block-answered told table entries stands bytes tells handle k within is frame known d =
     let read = block-read told table entries stands bytes tells handle k within is d in

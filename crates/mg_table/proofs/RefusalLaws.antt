@@ -110,21 +110,21 @@ filter_refused told file id given len at footer index fault same there long read
 
 -- what is read of a file that is loaded
 pub table_read : {S : Type 0} (told : S → Option (List ℕ)) (file : SealedFile S) (id : FileId) (given : S) (len at : ℕ) (table : Table S)
-    → file ≡ record { id = id; file = given; len = len } → at ≡ offset_of table.footer.filter_at → IsKept table_keys table_form table.footer table.index
+    → file ≡ record { id = id; file = given; len = len } → at ≡ offset_of table.indexed.footer.filter_at → IsKept table_keys table_form table.indexed.footer table.indexed.index
     → IfSome (told given) (λ bytes. length bytes ≡ len)
-    → IfSome (told given) (λ bytes. IsFooterRead true id bytes table.footer × IsIndexRead table_keys id bytes table.footer table.index)
-    → Under (told file.file) file.len (λ bytes. IsFilterRead file.id bytes at table.footer.blocks table.filter)
+    → IfSome (told given) (λ bytes. IsFooterRead true id bytes table.indexed.footer × IsIndexRead table_keys id bytes table.indexed.footer table.indexed.index)
+    → Under (told file.file) file.len (λ bytes. IsFilterRead file.id bytes at table.indexed.footer.blocks table.filter)
     → IfSome (told given) (λ bytes. IsRead id bytes table)
 table_read told file id given len at table same there kept long read is =
-    let Filtered : FileId → List ℕ → Type 0 = λ i bytes. IsFilterRead i bytes at table.footer.blocks table.filter in
-    some_then (told given) (λ bytes. (IsFooterRead true id bytes table.footer × IsIndexRead table_keys id bytes table.footer table.index) × Filtered id bytes) (λ bytes. IsRead id bytes table)
+    let Filtered : FileId → List ℕ → Type 0 = λ i bytes. IsFilterRead i bytes at table.indexed.footer.blocks table.filter in
+    some_then (told given) (λ bytes. (IsFooterRead true id bytes table.indexed.footer × IsIndexRead table_keys id bytes table.indexed.footer table.indexed.index) × Filtered id bytes) (λ bytes. IsRead id bytes table)
     (λ bytes h. record {
       kept = kept;
       footer = h.0.0;
       index = h.0.1;
-      filter = subst (λ (n : ℕ). IsFilterRead id bytes n table.footer.blocks table.filter) there h.1;
+      filter = subst (λ (n : ℕ). IsFilterRead id bytes n table.indexed.footer.blocks table.filter) there h.1;
     })
-    (some_both (told given) (λ bytes. IsFooterRead true id bytes table.footer × IsIndexRead table_keys id bytes table.footer table.index) (λ bytes. Filtered id bytes) read
+    (some_both (told given) (λ bytes. IsFooterRead true id bytes table.indexed.footer × IsIndexRead table_keys id bytes table.indexed.footer table.indexed.index) (λ bytes. Filtered id bytes) read
     (opened_told told file id given len Filtered same long is))
 
 -- a fault of one of two places of a file is one of some place

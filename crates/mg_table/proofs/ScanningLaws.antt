@@ -145,7 +145,7 @@ full-before blocks (suc j) filled within =
 
 -- each block of a table is the next one behind those before it
 pub next-in-table : {S : Type 0} (told : S → Option (List ℕ)) (table : Table S) (all : List Entry) (stands : Represents told table all) (k : ℕ) (handle : BlockHandle (List ℕ))
-    (before block : List Entry) (len size : ℕ) → k < length table.index → handle ≡ get_or table.index k handle → before ≡ items_of (take k stands.blocks)
+    (before block : List Entry) (len size : ℕ) → k < length table.indexed.index → handle ≡ get_or table.indexed.index k handle → before ≡ items_of (take k stands.blocks)
     → block ≡ get_or stands.blocks k [] → len ≡ len_before stands.blocks k → size ≡ length (block_body block) → IsNext handle.first before len block size
 next-in-table told table all stands k handle before block len size within is front here long same =
     let blocks = stands.blocks in
@@ -164,7 +164,7 @@ next-in-table told table all stands k handle before block len size within is fro
     )
 
 -- the entries of a table are as its footer says
-pub counted-in-table : {S : Type 0} (told : S → Option (List ℕ)) (table : Table S) (all : List Entry) → Represents told table all → AreCounted table.footer all
+pub counted-in-table : {S : Type 0} (told : S → Option (List ℕ)) (table : Table S) (all : List Entry) → Represents told table all → AreCounted table.indexed.footer all
 counted-in-table told table all stands = (
   ap length (sym stands.parts.listed.whole) ∙ sym (ap (λ (f : Footer). f.count) stands.footer),
   ap sizes_of (sym stands.parts.listed.whole) ∙ sym (ap (λ (f : Footer). f.sum) stands.footer),
@@ -172,7 +172,7 @@ counted-in-table told table all stands = (
 
 -- each block of a table has an entry, and the index says the first one's key
 pub first-in-table : {S : Type 0} (told : S → Option (List ℕ)) (table : Table S) (all : List Entry) (stands : Represents told table all) (k : ℕ) (handle : BlockHandle (List ℕ))
-    → k < length table.index → handle ≡ get_or table.index k handle → (get_or stands.blocks k [] ≢ []) × (first_key (get_or stands.blocks k []) ≡ handle.first)
+    → k < length table.indexed.index → handle ≡ get_or table.indexed.index k handle → (get_or stands.blocks k [] ≢ []) × (first_key (get_or stands.blocks k []) ≡ handle.first)
 first-in-table told table all stands k handle within is =
     let inside : k < length stands.blocks = omega (arith, ap length stands.index, length-handles_from 0 stands.blocks) in (
       (filled-at block_body stands.blocks k [] stands.parts.listed.filled inside).some,

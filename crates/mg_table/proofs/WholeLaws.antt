@@ -117,11 +117,11 @@ filter_is (Some at) len some end ends same = ap (λ (n : ℕ). Some n) (sym ends
 filter_is None len some end ends same = absurd cc
 
 -- index, filter and footer stand behind the blocks, and end the bytes
-tail_stands : {S : Type 0} (id : FileId) (bytes : List ℕ) (table : Table S) (number : ℕ) → IsRead id bytes table → number ≡ table.footer.blocks
-    → AllStand bytes table.footer.index_at number (index_bytes table_keys table.index ∷ table.filter ∷ footer_bytes table.footer ∷ [])
+tail_stands : {S : Type 0} (id : FileId) (bytes : List ℕ) (table : Table S) (number : ℕ) → IsRead id bytes table → number ≡ table.indexed.footer.blocks
+    → AllStand bytes table.indexed.footer.index_at number (index_bytes table_keys table.indexed.index ∷ table.filter ∷ footer_bytes table.indexed.footer ∷ [])
 unfolding AllStand
 tail_stands id bytes table number is count =
-    let f = table.footer in
+    let f = table.indexed.footer in
     let body = footer_bytes f in
     let end = length bytes - 73 in
     let at = offset_of f.filter_at in
@@ -129,17 +129,17 @@ tail_stands id bytes table number is count =
     let two = is.filter.stands in
     let three = is.footer.stands in
     let form = is.kept.is_footer.form in
-    let at-two : at ≡ f.index_at + (length (index_bytes table_keys table.index) + 20) = sym (is.index.ends ∙ index_end-some f.filter_at (length bytes) form) ∙ omega arith in
-    let at-three : end ≡ f.index_at + (length (index_bytes table_keys table.index) + 20) + (length table.filter + 20) = omega (arith, at-two, is.filter.ends) in
+    let at-two : at ≡ f.index_at + (length (index_bytes table_keys table.indexed.index) + 20) = sym (is.index.ends ∙ index_end-some f.filter_at (length bytes) form) ∙ omega arith in
+    let at-three : end ≡ f.index_at + (length (index_bytes table_keys table.indexed.index) + 20) + (length table.filter + 20) = omega (arith, at-two, is.filter.ends) in
     let n-three : f.blocks + 2 ≡ number + 1 + 1 = omega (arith, count) in
-    let past : length (drop (f.index_at + (length (index_bytes table_keys table.index) + 20) + (length table.filter + 20) + (length body + 20)) bytes) ≡ 0 =
-    omega (arith, at-three, length-footer_bytes true f form, length-drop (f.index_at + (length (index_bytes table_keys table.index) + 20) + (length table.filter + 20) + (length body + 20)) bytes) in
-    let one' = subst (λ (n : ℕ). StandsAt bytes f.index_at (n, index_bytes table_keys table.index)) (sym count) one in
-    let two' = subst (λ (n : ℕ). StandsAt bytes (f.index_at + (length (index_bytes table_keys table.index) + 20)) (n, table.filter)) (ap (λ n. n + 1) (sym count))
+    let past : length (drop (f.index_at + (length (index_bytes table_keys table.indexed.index) + 20) + (length table.filter + 20) + (length body + 20)) bytes) ≡ 0 =
+    omega (arith, at-three, length-footer_bytes true f form, length-drop (f.index_at + (length (index_bytes table_keys table.indexed.index) + 20) + (length table.filter + 20) + (length body + 20)) bytes) in
+    let one' = subst (λ (n : ℕ). StandsAt bytes f.index_at (n, index_bytes table_keys table.indexed.index)) (sym count) one in
+    let two' = subst (λ (n : ℕ). StandsAt bytes (f.index_at + (length (index_bytes table_keys table.indexed.index) + 20)) (n, table.filter)) (ap (λ n. n + 1) (sym count))
     (subst (λ (at : ℕ). StandsAt bytes at (f.blocks + 1, table.filter)) at-two two) in
-    let three' = subst (λ (n : ℕ). StandsAt bytes (f.index_at + (length (index_bytes table_keys table.index) + 20) + (length table.filter + 20)) (n, body)) n-three
+    let three' = subst (λ (n : ℕ). StandsAt bytes (f.index_at + (length (index_bytes table_keys table.indexed.index) + 20) + (length table.filter + 20)) (n, body)) n-three
     (subst (λ (at : ℕ). StandsAt bytes at (f.blocks + 2, body)) at-three three) in
-    let none = none_left (drop (f.index_at + (length (index_bytes table_keys table.index) + 20) + (length table.filter + 20) + (length body + 20)) bytes) past in
+    let none = none_left (drop (f.index_at + (length (index_bytes table_keys table.indexed.index) + 20) + (length table.filter + 20) + (length body + 20)) bytes) past in
     (one', (two', (three', none)))
 
 some-counted : (entries : List Entry) (n : ℕ) → length entries ≡ n → 1 ≤ n → entries ≡ [] → ⊥
@@ -148,23 +148,23 @@ some-counted (entry ∷ entries) n count some none = cc
 
 -- what was scanned of a file that was loaded is a table, but for the bits of its filter
 pub is-whole : {S : Type 0} (id : FileId) (bytes : List ℕ) (table : Table S) (entries : List Entry) (blocks : List (List Entry)) → IsRead id bytes table
-    → AreRead id bytes 0 table.index blocks → AreHeaded table.index blocks → AreFilled block_body blocks → entries ≡ items_of blocks → AreEntries entries
-    → AreCounted table.footer entries → IsTableBut bytes table.footer.low table.footer.high entries table.filter
+    → AreRead id bytes 0 table.indexed.index blocks → AreHeaded table.indexed.index blocks → AreFilled block_body blocks → entries ≡ items_of blocks → AreEntries entries
+    → AreCounted table.indexed.footer entries → IsTableBut bytes table.indexed.footer.low table.indexed.footer.high entries table.filter
 unfolding numbered_frames
 is-whole id bytes table entries blocks is read headed filled items rising counted =
-    let f = table.footer in
+    let f = table.indexed.footer in
     let index = is.index in
-    let handles = handles-are id bytes 0 0 [] table.index blocks f.index_at is.kept.right read headed in
-    let count : length blocks ≡ f.blocks = read-length id bytes 0 table.index blocks read ∙ is.kept.count in
+    let handles = handles-are id bytes 0 0 [] table.indexed.index blocks f.index_at is.kept.right read headed in
+    let count : length blocks ≡ f.blocks = read-length id bytes 0 table.indexed.index blocks read ∙ is.kept.count in
     let ends = index-ends [] 0 blocks f.index_at (subst (λ hs. IsIndexFrom table_keys table_form [] 0 hs f.index_at) handles is.kept.right) in
     let index_at : f.index_at ≡ length (numbered_frames (map block_body blocks)) = omega (arith, ends, length-frames blocks) in
-    let long : length (index_bytes table_keys table.index) ≡ length (index_bytes table_keys (handles_from 0 blocks)) = ap (λ hs. length (index_bytes table_keys hs)) handles in
+    let long : length (index_bytes table_keys table.indexed.index) ≡ length (index_bytes table_keys (handles_from 0 blocks)) = ap (λ hs. length (index_bytes table_keys hs)) handles in
     let footer : f ≡ footer_of f.low f.high blocks table.filter =
     footer_is f (footer_of f.low f.high blocks table.filter) (sym counted.0 ∙ ap length items) (sym counted.1 ∙ ap sizes_of items) refl refl index_at
     (filter_is f.filter_at (length bytes) is.kept.is_footer.form _ index.ends (omega (arith, index_at, long))) (sym count) in
     let tail = tail_stands id bytes table (0 + length blocks) is (omega (arith, count)) in
-    let stand = blocks_stand id bytes 0 0 [] table.index blocks f.index_at (index_bytes table_keys table.index ∷ table.filter ∷ footer_bytes f ∷ []) is.kept.right read tail in
-    let spelled = all_stand bytes 0 0 (map block_body blocks ++ index_bytes table_keys table.index ∷ table.filter ∷ footer_bytes f ∷ []) stand in
+    let stand = blocks_stand id bytes 0 0 [] table.indexed.index blocks f.index_at (index_bytes table_keys table.indexed.index ∷ table.filter ∷ footer_bytes f ∷ []) is.kept.right read tail in
+    let spelled = all_stand bytes 0 0 (map block_body blocks ++ index_bytes table_keys table.indexed.index ∷ table.filter ∷ footer_bytes f ∷ []) stand in
     record {
       blocks = blocks;
       parts = record {

@@ -1,13 +1,8 @@
 -- The index of a table: a handle for each block.
-use Rattle.std.specs.Prelude.{ℕ, ◌+◌, ◌≤◌, ◌<◌, ◌^◌, List, [], ◌∷◌, length}
+use Rattle.std.specs.Prelude.{ℕ, ◌+◌, List, [], ◌∷◌, length}
 use Rattle.mg_table.specs.Entries.{block_body, first_key}
 use Rattle.mg_types.specs.declared.items.Entry.{Entry}
 use Rattle.mg_indexed.specs.declared.handle.BlockHandle.{BlockHandle}
-
--- the first key of a handle is no longer than keys are, and the offset is below 2 ^ 62
-pub record IsHandle (handle : BlockHandle (List ℕ)) : Type 0 where
-  pub key : length handle.first ≤ 250
-  pub at : handle.at < 2 ^ 62
 
 -- the whole length of a block's frame
 abbrev pub frame_length : List Entry → ℕ

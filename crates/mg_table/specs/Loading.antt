@@ -41,10 +41,10 @@ pub record IsFilterRead (id : FileId) (bytes : List ℕ) (at blocks : ℕ) (filt
 
 -- A file of these bytes is loaded as this table: what is kept of it is what its last three frames say.
 pub record IsRead {S : Type 0} (id : FileId) (bytes : List ℕ) (table : Table S) : Type 0 where
-  pub kept : IsKept table_keys table_form table.footer table.index
-  pub footer : IsFooterRead true id bytes table.footer
-  pub index : IsIndexRead table_keys id bytes table.footer table.index
-  pub filter : IsFilterRead id bytes (offset_of table.footer.filter_at) table.footer.blocks table.filter
+  pub kept : IsKept table_keys table_form table.indexed.footer table.indexed.index
+  pub footer : IsFooterRead true id bytes table.indexed.footer
+  pub index : IsIndexRead table_keys id bytes table.indexed.footer table.indexed.index
+  pub filter : IsFilterRead id bytes (offset_of table.indexed.footer.filter_at) table.indexed.footer.blocks table.filter
 
 -- Why a file of these bytes, of which this length is kept, is not loaded: nothing that its bytes cause; its length, its footer or its
 -- index; or, where these are right, its filter.

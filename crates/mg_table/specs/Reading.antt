@@ -28,7 +28,7 @@ entry_of key entries = find (λ entry. bytes_eq entry.key key) entries
 
 -- what stands at the offset of some block of the table is damaged or malformed
 abbrev pub HasUnfit : {S : Type 0} → Table S → Fault → Type 0
-HasUnfit table fault = Any (λ handle. IsUnfitAt table.file.id handle.at fault) table.index
+HasUnfit table fault = Any (λ handle. IsUnfitAt table.indexed.file.id handle.at fault) table.indexed.index
 
 -- the body of the block of this number whose handle is in the index, or what is damaged or malformed there
 abbrev pub read_at : FileId → List ℕ → BlockHandle (List ℕ) → ℕ → Result (List ℕ) Fault
@@ -75,25 +75,25 @@ IsRefusedAt id bytes number IsBodyUnfit fault handle =
 -- why the block of this number is refused, where the index says that it stands
 abbrev pub IsBlockRefused : {S : Type 0} → Table S → List ℕ → ℕ → (BlockHandle (List ℕ) → List ℕ → Fault → Type 0) → Fault → Type 0
 IsBlockRefused table bytes number IsBodyUnfit fault =
-    (number < length table.index) × HoldsAt (IsRefusedAt table.file.id bytes number IsBodyUnfit fault) table.index number
+    (number < length table.indexed.index) × HoldsAt (IsRefusedAt table.indexed.file.id bytes number IsBodyUnfit fault) table.indexed.index number
 
 -- A key is sought in the block of this number: the filter does not deny the key, the block begins with no key above it, and the next
 -- block with one above.
 pub record IsSoughtIn {S : Type 0} (table : Table S) (key : List ℕ) (number : ℕ) : Type 0 where
   pub held : has_words table.filter (key_words key) ≡ true
-  pub within : number < length table.index
-  pub last : HoldsAt (λ handle. Precedes key handle.first → ⊥) table.index number
-  pub following : number + 1 < length table.index → HoldsAt (λ handle. Precedes key handle.first) table.index (number + 1)
+  pub within : number < length table.indexed.index
+  pub last : HoldsAt (λ handle. Precedes key handle.first → ⊥) table.indexed.index number
+  pub following : number + 1 < length table.indexed.index → HoldsAt (λ handle. Precedes key handle.first) table.indexed.index (number + 1)
 
 -- a key is sought in no block: the filter denies it, or the first block begins above it
 abbrev pub IsSoughtNowhere : {S : Type 0} → Table S → List ℕ → Type 0
 IsSoughtNowhere table key =
-    (has_words table.filter (key_words key) ≡ false) ⊎ (0 < length table.index → HoldsAt (λ handle. Precedes key handle.first) table.index 0)
+    (has_words table.filter (key_words key) ≡ false) ⊎ (0 < length table.indexed.index → HoldsAt (λ handle. Precedes key handle.first) table.indexed.index 0)
 
 -- the block of this number is read, it begins with the key that the index says, and this is so of its body
 abbrev pub HasBody : {S : Type 0} → Table S → List ℕ → ℕ → (List ℕ → Type 0) → Type 0
-HasBody table bytes number P = HoldsAt (λ handle. (body : List ℕ) × (read_at table.file.id bytes handle number ≡ Ok body) × BeginsWithKey body handle.first × P body)
-    table.index number
+HasBody table bytes number P = HoldsAt (λ handle. (body : List ℕ) × (read_at table.indexed.file.id bytes handle number ≡ Ok body) × BeginsWithKey body handle.first × P body)
+    table.indexed.index number
 
 -- what is read where this is found of a key: an entry, behind smaller keys of its block; or none, in no block or in the key's block
 abbrev pub IsFindRead : {S : Type 0} → Table S → List ℕ → List ℕ → Option Entry → Type 0
@@ -104,7 +104,7 @@ IsFindRead table bytes key (Some entry) =
 -- why a key is not found in a table whose file has these bytes: the block in which it is sought is refused
 abbrev pub IsFindRefused : {S : Type 0} → Table S → List ℕ → List ℕ → Fault → Type 0
 IsFindRefused table bytes key fault =
-    (number : ℕ) × IsSoughtIn table key number × IsBlockRefused table bytes number (λ handle body. IsFindUnfit table.file.id handle body key) fault
+    (number : ℕ) × IsSoughtIn table key number × IsBlockRefused table bytes number (λ handle body. IsFindUnfit table.indexed.file.id handle body key) fault
 
 -- the blocks at these handles, of which the first has this number, are read, stand there as frames, and are those of these entries
 abbrev pub AreRead : FileId → List ℕ → ℕ → List (BlockHandle (List ℕ)) → List (List Entry) → Type 0
@@ -118,17 +118,17 @@ AreRead id bytes number (handle ∷ handles) (block ∷ blocks) =
 -- The first blocks of the table are these: they are read, each begins with the key that the index says, their keys rise from each to
 -- the next, and they are filled in order.
 pub record AreFirst {S : Type 0} (table : Table S) (bytes : List ℕ) (blocks : List (List Entry)) : Type 0 where
-  pub read : AreRead table.file.id bytes 0 (take (length blocks) table.index) blocks
-  pub headed : AreHeaded (take (length blocks) table.index) blocks
+  pub read : AreRead table.indexed.file.id bytes 0 (take (length blocks) table.indexed.index) blocks
+  pub headed : AreHeaded (take (length blocks) table.indexed.index) blocks
   pub rising : AreEntries (items_of blocks)
   pub filled : AreFilled block_body blocks
 
 -- the block behind these ones, of which the last has `len` bytes, is read, and may not stand there
 abbrev pub IsOrderRefused : {S : Type 0} → Table S → List ℕ → List (List Entry) → Fault → Type 0
 IsOrderRefused table bytes before fault =
-    (block : List Entry) × (len : ℕ) × AreRead table.file.id bytes 0 (take (length before + 1) table.index) (before ++ block ∷ []) × EndsIn before len
-    × (length before < length table.index)
-    × HoldsAt (λ handle. (IsNext handle.first (items_of before) len block (length (block_body block)) → ⊥) × (fault ≡ Malformed table.file.id handle.at)) table.index
+    (block : List Entry) × (len : ℕ) × AreRead table.indexed.file.id bytes 0 (take (length before + 1) table.indexed.index) (before ++ block ∷ []) × EndsIn before len
+    × (length before < length table.indexed.index)
+    × HoldsAt (λ handle. (IsNext handle.first (items_of before) len block (length (block_body block)) → ⊥) × (fault ≡ Malformed table.indexed.file.id handle.at)) table.indexed.index
     (length before)
 
 -- why a table whose file has these bytes is not listed: behind blocks that are right, one is refused, or may not stand there; or all are
@@ -136,7 +136,7 @@ IsOrderRefused table bytes before fault =
 abbrev pub IsScanRefused : {S : Type 0} → Table S → List ℕ → Fault → Type 0
 IsScanRefused table bytes fault =
     ((before : List (List Entry)) × AreFirst table bytes before
-    × IsBlockRefused table bytes (length before) (λ handle body. IsListUnfit table.file.id handle.at body) fault)
+    × IsBlockRefused table bytes (length before) (λ handle body. IsListUnfit table.indexed.file.id handle.at body) fault)
     ⊎ ((before : List (List Entry)) × AreFirst table bytes before × IsOrderRefused table bytes before fault)
-    ⊎ ((blocks : List (List Entry)) × AreFirst table bytes blocks × (length blocks ≡ length table.index) × (AreCounted table.footer (items_of blocks) → ⊥)
-    × (fault ≡ Malformed table.file.id (table.file.len - 73)))
+    ⊎ ((blocks : List (List Entry)) × AreFirst table bytes blocks × (length blocks ≡ length table.indexed.index) × (AreCounted table.indexed.footer (items_of blocks) → ⊥)
+    × (fault ≡ Malformed table.indexed.file.id (table.indexed.file.len - 73)))

@@ -75,8 +75,8 @@ pub record IsTableBut (bytes : List ℕ) (lo hi : ℕ) (entries : List Entry) (f
 -- bytes, these are their table.
 pub record Represents {S : Type 0} (told : S → Option (List ℕ)) (table : Table S) (entries : List Entry) : Type 0 where
   pub blocks : List (List Entry)
-  pub parts : IsTableOf table.footer.low table.footer.high entries blocks table.filter
-  pub footer : table.footer ≡ footer_of table.footer.low table.footer.high blocks table.filter
-  pub index : table.index ≡ handles_from 0 blocks
-  pub len : table.file.len ≡ length (numbered_frames (table_bodies table.footer.low table.footer.high blocks table.filter))
-  pub file : IfSome (told table.file.file) (λ bytes. bytes ≡ numbered_frames (table_bodies table.footer.low table.footer.high blocks table.filter))
+  pub parts : IsTableOf table.indexed.footer.low table.indexed.footer.high entries blocks table.filter
+  pub footer : table.indexed.footer ≡ footer_of table.indexed.footer.low table.indexed.footer.high blocks table.filter
+  pub index : table.indexed.index ≡ handles_from 0 blocks
+  pub len : table.indexed.file.len ≡ length (numbered_frames (table_bodies table.indexed.footer.low table.indexed.footer.high blocks table.filter))
+  pub file : IfSome (told table.indexed.file.file) (λ bytes. bytes ≡ numbered_frames (table_bodies table.indexed.footer.low table.indexed.footer.high blocks table.filter))

@@ -1,55 +1,55 @@
 -- A table in writing.
 use Rattle.std.specs.Prelude.{◌≡◌, ◌≢◌, ℕ, ◌+◌, ◌*◌, ◌≤◌, ◌<◌, ◌^◌, ◌⊎◌, List, [], ◌∷◌, ◌++◌, length, map, Option}
-use Rattle.std.specs.List.{concat, All}
-use Rattle.mg_block.specs.Block.{block_of}
+use Rattle.std.specs.List.{concat}
+use Rattle.mg_block.specs.Block.{block_of, Precedes}
+use Rattle.mg_block.specs.View.{last_pair}
 use Rattle.mg_block.specs.declared.pair.Pair.{Pair}
 use Rattle.mg_bloom.specs.Bloom.{bit_count, IsBitCountFor}
 use Rattle.mg_bloom.specs.Folding.{HasBitsOf}
 use Rattle.mg_types.specs.Bytes.{IsKey}
 use Rattle.mg_types.specs.declared.names.FileId.{FileId}
 use Rattle.mg_sealed.specs.Filling.{AreFilled, items_of}
-use Rattle.mg_sealed.specs.Writing.{Written, HasFrames}
+use Rattle.mg_sealed.specs.Writing.{HasFrames}
 use Rattle.mg_table.specs.Entries.{block_body, first_key, pair_of, AreEntries}
-use Rattle.mg_table.specs.Index.{handles_from, IsHandle}
-use Rattle.mg_indexed.specs.Index.{index_bytes}
-use Rattle.mg_indexed.specs.TableKeys.{table_keys}
+use Rattle.mg_table.specs.Index.{handles_from}
+use Rattle.mg_indexed.specs.Index.{first_after}
+use Rattle.mg_indexed.specs.TableKeys.{table_keys, MayFollow}
+use Rattle.mg_indexed.specs.Writing.{index_length, Closed}
 use Rattle.mg_types.specs.declared.faults.Fault.{Fault}
 use Rattle.mg_types.specs.declared.faults.Fault.TheVariants.{Worn}
 use Rattle.mg_table.specs.Table.{hashed_keys, sizes_of}
 use Rattle.mg_types.specs.declared.items.Entry.{Entry}
 use Rattle.mg_indexed.specs.declared.handle.BlockHandle.{BlockHandle}
 
--- the blocks that were closed: their frames, and where they stand
-pub record ClosedBlocks (D : Type 0) : Type 0 where
-  pub frames : Written D
-  pub index : List (BlockHandle (List ℕ))
+-- The open block may be closed, and another one begun behind it: its frame is as long as those of tables are, its first key follows that of
+-- the block before and is no key above its last one, and the index has room for its handle.
+pub record IsOpen (index : List (BlockHandle (List ℕ))) (block : List Pair) (first : List ℕ) : Type 0 where
+  pub least : 17 ≤ length (block_of block)
+  pub most : length (block_of block) ≤ 4096
+  pub key : IsKey first
+  pub follows : MayFollow (first_after [] index) first
+  pub last : (first ≡ (last_pair block).key) ⊎ Precedes first (last_pair block).key
+  pub room : index_length table_keys index + (length first + 13) < 2 ^ 32
 
--- no frame is longer than a full block's, each has its handle in the index, and the index has room in a frame
-pub record AreBounded {D : Type 0} (closed : ClosedBlocks D) : Type 0 where
-  pub len : closed.frames.len ≤ 4116 * closed.frames.count
-  pub index : closed.frames.count ≤ length closed.index
-  pub handles : All IsHandle closed.index
-  pub bytes : length (index_bytes table_keys closed.index) < 2 ^ 32
-
--- how many bytes the index has
-abbrev pub index_length : {D : Type 0} → ClosedBlocks D → ℕ
-index_length closed = length (index_bytes table_keys closed.index)
+-- no block is begun, or one is open
+abbrev pub IsBegun : List (BlockHandle (List ℕ)) → List Pair → List ℕ → Type 0
+IsBegun index block first = ((block ≡ []) × (index ≡ [])) ⊎ ((block ≢ []) × IsOpen index block first)
 
 -- Where a pair begins a block, the index has room for its handle, behind that of the open block.
-abbrev pub HasRoom : {D : Type 0} → ClosedBlocks D → List Pair → List ℕ → Pair → Type 0
-HasRoom closed block first pair =
-    (block ≡ [] → index_length closed + (length pair.key + 13) < 2 ^ 32)
-    × (block ≢ [] → 4096 < length (block_of (block ++ pair ∷ [])) → index_length closed + (length first + 13) + (length pair.key + 13) < 2 ^ 32)
+abbrev pub HasRoom : List (BlockHandle (List ℕ)) → List Pair → List ℕ → Pair → Type 0
+HasRoom index block first pair =
+    (block ≡ [] → index_length table_keys index + (length pair.key + 13) < 2 ^ 32)
+    × (block ≢ [] → 4096 < length (block_of (block ++ pair ∷ [])) → index_length table_keys index + (length first + 13) + (length pair.key + 13) < 2 ^ 32)
 
 -- The pair begins a block for whose handle the index has no room, behind that of the open block; the answer is its length with that one.
-abbrev pub IsFull : {D : Type 0} → ClosedBlocks D → List Pair → List ℕ → Pair → Fault → Type 0
-IsFull closed block first pair fault =
-    ((block ≡ []) × (2 ^ 32 ≤ index_length closed + (length pair.key + 13)) × (fault ≡ Worn (index_length closed)))
-    ⊎ ((block ≢ []) × (4096 < length (block_of (block ++ pair ∷ []))) × (2 ^ 32 ≤ index_length closed + (length first + 13) + (length pair.key + 13))
-    × (fault ≡ Worn (index_length closed + (length first + 13))))
+abbrev pub IsFull : List (BlockHandle (List ℕ)) → List Pair → List ℕ → Pair → Fault → Type 0
+IsFull index block first pair fault =
+    ((block ≡ []) × (2 ^ 32 ≤ index_length table_keys index + (length pair.key + 13)) × (fault ≡ Worn (index_length table_keys index)))
+    ⊎ ((block ≢ []) × (4096 < length (block_of (block ++ pair ∷ []))) × (2 ^ 32 ≤ index_length table_keys index + (length first + 13) + (length pair.key + 13))
+    × (fault ≡ Worn (index_length table_keys index + (length first + 13))))
 
 -- the closed blocks are these
-pub record HasBlocks {D : Type 0} (drafted : D → Option (List ℕ)) (closed : ClosedBlocks D) (blocks : List (List Entry)) : Type 0 where
+pub record HasBlocks {D : Type 0} (drafted : D → Option (List ℕ)) (closed : Closed D (List ℕ)) (blocks : List (List Entry)) : Type 0 where
   pub frames : HasFrames drafted closed.frames (map block_body blocks)
   pub index : closed.index ≡ handles_from 0 blocks
 
@@ -59,7 +59,7 @@ pub record Writing (D : Type 0) : Type 0 where
   pub id : FileId
   pub lo : ℕ
   pub hi : ℕ
-  pub closed : ClosedBlocks D
+  pub closed : Closed D (List ℕ)
   pub block : List Pair
   pub first : List ℕ
   pub filter : List ℕ
@@ -67,33 +67,32 @@ pub record Writing (D : Type 0) : Type 0 where
   pub count : ℕ
   pub sizes : ℕ
 
--- What a writer keeps is bounded, its filter has the size for as many entries as may come, and the index has room for the open block's handle.
+-- What a writer keeps is bounded, its filter has the size for as many entries as may come, and its open block may be closed.
 pub record IsBounded {D : Type 0} (writer : Writing D) : Type 0 where
   pub lo : writer.lo < 2 ^ 62
   pub hi : writer.hi < 2 ^ 62
-  pub block : length (block_of writer.block) ≤ 4096
   pub first : length writer.first ≤ 250
-  pub key : writer.block ≢ [] → IsKey writer.first
+  pub begun : IsBegun writer.closed.index writer.block writer.first
   pub most : writer.most ≤ 2 ^ 40
   pub count : writer.count ≤ writer.most
+  pub some : writer.block ≢ [] → 1 ≤ writer.count
   pub filter : IsBitCountFor writer.most (bit_count writer.filter)
   pub sizes : writer.sizes ≤ 1048826 * writer.count
-  pub room : writer.block ≢ [] → index_length writer.closed + (length writer.first + 13) < 2 ^ 32
 
 -- no block is begun; or the blocks with the open one behind them are filled in order, and the open one is not empty
 abbrev pub Fills : List (List Entry) → List Entry → Type 0
 Fills blocks last = ((blocks ≡ []) × (last ≡ [])) ⊎ ((last ≢ []) × AreFilled block_body (blocks ++ last ∷ []))
 
--- An entry may be put into the open block: the entries are those that stood in other blocks before, and with the entry the
--- blocks are filled.
-pub record IsReady {D : Type 0} (drafted : D → Option (List ℕ)) (closed : ClosedBlocks D) (block : List Pair) (blocks : List (List Entry)) (last : List Entry) (entry : Entry) : Type 0 where
+-- An entry was put behind those of closed blocks and an open one: it is the last one of the open block, and the blocks are filled.
+pub record IsPut {D : Type 0} (drafted : D → Option (List ℕ)) (closed : Closed D (List ℕ)) (block : List Pair) (first : List ℕ) (blocks : List (List Entry)) (last : List Entry) (entry : Entry) : Type 0 where
   pub now : List (List Entry)
   pub opened : List Entry
   pub closed_are : HasBlocks drafted closed now
   pub block_is : block ≡ map pair_of opened
-  pub same : items_of now ++ opened ≡ items_of blocks ++ last
-  pub kept : (opened ≡ []) ⊎ (opened ≡ last)
-  pub filled : AreFilled block_body (now ++ (opened ++ entry ∷ []) ∷ [])
+  pub first_is : first ≡ first_key opened
+  pub all : items_of now ++ opened ≡ (items_of blocks ++ last) ++ entry ∷ []
+  pub some : opened ≢ []
+  pub filled : AreFilled block_body (now ++ opened ∷ [])
 
 -- The writer stands behind these entries, in these closed blocks and the open one. Its filter has the bits of their keys and
 -- no others.

@@ -1,7 +1,7 @@
 //! Loading a table: its footer, its index and its filter.
 
 ghost use Rattle.std.specs.Prelude.{◌≡◌, ℕ, ◌-◌, ◌<◌, ◌≤◌, ◌^◌, ◌⊎◌, List, length, All, IfErr, IfOk, IfSome, MatchResult, Ok};
-ghost use Rattle.mg_faults.specs.Causes.{HasCause};
+ghost use Rattle.mg_faults.specs.Causes.{CountsOnce, HasCause};
 ghost use Rattle.mg_sealed.specs.Answers.{Answers, IsOutside};
 ghost use Rattle.mg_sealed.specs.Blocks.{IsUnfitAt};
 ghost use Rattle.mg_indexed.specs.Footer.{offset_of};
@@ -33,25 +33,21 @@ impl<S: Drop> Table<S> {
         requires { len < 2 ^ 62 }
         ensures loaded { IfSome (F.told file) (λ bytes. (lo hi : ℕ) (entries : List Entry) → IsTable bytes lo hi entries → length bytes ≡ len →
             MatchResult result
-            (λ table. Represents F.told table entries × (table.footer.low ≡ lo) × (table.footer.high ≡ hi))
+            (λ table. Represents F.told table entries × (table.indexed.footer.low ≡ lo) × (table.indexed.footer.high ≡ hi))
             (λ fault. IsOutside fault)) }
         ensures len { IfOk result (λ _. IfSome (F.told file) (λ bytes. length bytes ≡ len)) }
         ensures kinds { IfErr result (λ fault. IsOutside fault ⊎ ((at : ℕ) × IsUnfitAt id at fault)) }
         ensures refusals { IfErr result (λ fault. IfSome (F.told file) (λ bytes. IsRefused id file len bytes fault)) }
         ensures read { IfOk result (λ table. IfSome (F.told file) (λ bytes. IsRead id bytes table)) }
-        ensures file { IfOk result (λ table. table.file ≡ record { id = id; file = file; len = len }) }
+        ensures file { IfOk result (λ table. table.indexed.file ≡ record { id = id; file = file; len = len }) }
         ensures cause { HasCause Fault.ReadFault (F.faults port.old) (F.faults port.new) result }
+        ensures once { CountsOnce (F.faults port.old) (F.faults port.new) result }
     {
-        let loaded = mg_indexed::load::<F, Key, Entry>(alloc, port, id, file, len)?;
-        let (file, footer, index) = loaded.into_parts();
-        let at = filter_offset(&footer);
-        let filter = read_filter(alloc, port, &file, at, footer.blocks)?;
-        Ok(Table {
-            file,
-            index,
-            filter,
-            footer,
-        })
+        let indexed = mg_indexed::load::<F, Key, Entry>(alloc, port, id, file, len)?;
+        let footer = indexed.footer();
+        let at = filter_offset(footer);
+        let filter = read_filter(alloc, port, indexed.file(), at, footer.blocks)?;
+        Ok(Table { indexed, filter })
     }
 }
 
@@ -81,6 +77,7 @@ fn read_filter<F: Files>(
     ensures refusals { IfErr result (λ fault. IfSome (F.told file.now.file) (λ bytes. file.now.len ≡ length bytes →
         IsOutside fault ⊎ IsFilterRefused file.now.id bytes at blocks fault)) }
     ensures cause { HasCause Fault.ReadFault (F.faults port.old) (F.faults port.new) result }
+    ensures once { CountsOnce (F.faults port.old) (F.faults port.new) result }
 {
     let footer_at = file.len - FOOTER_LEN;
     let size = footer_at.saturating_sub(at);

@@ -1,10 +1,11 @@
 //! Finding an entry, and listing all.
 
-ghost use Rattle.std.specs.Prelude.{◌≡◌, ◌-◌, ◌<◌, ◌≤◌, ◌⊎◌, ◌↔◌, IsTrue, List, ◌++◌, length, map, All, HoldsAt, IfSome, IfErr, IfOk, OnOk, MatchOption, MatchResult, None, Ok};
+ghost use Rattle.std.specs.Prelude.{◌≡◌, ◌+◌, ◌-◌, ◌<◌, ◌≤◌, ◌^◌, ◌⊎◌, ◌↔◌, IsTrue, List, ◌++◌, length, map, All, HoldsAt, IfSome, IfErr, IfOk, OnOk, MatchOption, MatchResult, None, Ok};
 ghost use Rattle.mg_block.specs.Block.{IsBlock, Precedes};
 ghost use Rattle.mg_block.specs.Search.{Finds, Misses};
 ghost use Rattle.mg_bloom.specs.Bloom.{key_words};
-ghost use Rattle.mg_faults.specs.Causes.{HasCause};
+ghost use Rattle.mg_faults.specs.Causes.{CountsOnce, HasCause};
+ghost use Rattle.mg_frame.specs.Frame.{StandsAt};
 ghost use Rattle.mg_sealed.specs.Answers.{Answers, IsOutside};
 ghost use Rattle.mg_sealed.specs.Blocks.{IsUnfitAt};
 ghost use Rattle.mg_sealed.specs.Filling.{items_of, AreFilled};
@@ -12,7 +13,7 @@ ghost use Rattle.mg_table.specs.Entries.{block_body, pair_of, payload_of, AreEnt
 ghost use Rattle.mg_types.specs.Items.{IsEntry};
 ghost use Rattle.mg_table.specs.Index.{handles_from};
 ghost use Rattle.mg_table.specs.Loading.{IsRead};
-ghost use Rattle.mg_table.specs.Reading.{entry_of, AreRead, BeginsWithKey, HasUnfit, IsFindRead, IsFindRefused, IsListUnfit, IsPayloadRefused, IsScanRefused, IsSearchUnfit, IsSoughtIn, IsSoughtNowhere};
+ghost use Rattle.mg_table.specs.Reading.{entry_of, read_at, AreRead, BeginsWithKey, HasUnfit, IsFindRead, IsFindRefused, IsListUnfit, IsPayloadRefused, IsScanRefused, IsSearchUnfit, IsSoughtIn, IsSoughtNowhere};
 ghost use Rattle.mg_table.specs.Scanning.{AreCounted};
 ghost use Rattle.mg_table.specs.Table.{IsTableBut, IsTableOf, Represents};
 ghost use Rattle.mg_types.specs.declared.items.Entry.{Entry};
@@ -25,10 +26,9 @@ use mg_block::BlockCursor;
 use mg_bloom::HashedKey;
 use mg_indexed::BlockHandle;
 use mg_items::Items;
-use mg_sealed::{BLOCK_LIMIT, Blocks, malformed};
+use mg_sealed::{BLOCK_LIMIT, Block, Blocks, malformed};
 use mg_types::{Entry, Fault, FileId, Key, NUMBER_LIMIT};
 use std::alloc::Global;
-use std::cmp::Ordering;
 use std::mem;
 
 impl<S: Drop> Table<S> {
@@ -43,14 +43,15 @@ impl<S: Drop> Table<S> {
         port: &mut F,
         key: &Key,
     ) -> Result<Option<Entry>, Fault>
-        ensures found { IfSome (F.Files.told self.now.file.file) (λ _. (entries : List Entry) → Represents F.Files.told self.now entries →
+        ensures found { IfSome (F.Files.told self.now.indexed.file.file) (λ _. (entries : List Entry) → Represents F.Files.told self.now entries →
             Answers (Ok (entry_of key.now entries)) result) }
-        ensures read { IfOk result (λ found. IfSome (F.Files.told self.now.file.file) (λ bytes. self.now.file.len ≡ length bytes →
+        ensures read { IfOk result (λ found. IfSome (F.Files.told self.now.indexed.file.file) (λ bytes. self.now.indexed.file.len ≡ length bytes →
             IsFindRead self.now bytes key.now found)) }
         ensures refusals { IfErr result (λ fault. IsOutside fault ⊎ HasUnfit self.now fault) }
-        ensures causes { IfErr result (λ fault. IfSome (F.Files.told self.now.file.file) (λ bytes. self.now.file.len ≡ length bytes →
+        ensures causes { IfErr result (λ fault. IfSome (F.Files.told self.now.indexed.file.file) (λ bytes. self.now.indexed.file.len ≡ length bytes →
             IsOutside fault ⊎ IsFindRefused self.now bytes key.now fault)) }
         ensures cause { HasCause Fault.ReadFault (F.Files.faults port.old) (F.Files.faults port.new) result }
+        ensures once { CountsOnce (F.Files.faults port.old) (F.Files.faults port.new) result }
     {
         let mut buffer = Vec::new(alloc);
         self.find_hashed(alloc, port, key, &HashedKey::new(key.bytes()), &mut buffer)
@@ -66,30 +67,25 @@ impl<S: Drop> Table<S> {
         buffer: &mut Vec<u8>,
     ) -> Result<Option<Entry>, Fault>
         requires { hashed.now ≡ key_words key.now }
-        ensures found { IfSome (F.Files.told self.now.file.file) (λ _. (entries : List Entry) → Represents F.Files.told self.now entries →
+        ensures found { IfSome (F.Files.told self.now.indexed.file.file) (λ _. (entries : List Entry) → Represents F.Files.told self.now entries →
             Answers (Ok (entry_of key.now entries)) result) }
-        ensures read { IfOk result (λ found. IfSome (F.Files.told self.now.file.file) (λ bytes. self.now.file.len ≡ length bytes →
+        ensures read { IfOk result (λ found. IfSome (F.Files.told self.now.indexed.file.file) (λ bytes. self.now.indexed.file.len ≡ length bytes →
             IsFindRead self.now bytes key.now found)) }
         ensures refusals { IfErr result (λ fault. IsOutside fault ⊎ HasUnfit self.now fault) }
-        ensures causes { IfErr result (λ fault. IfSome (F.Files.told self.now.file.file) (λ bytes. self.now.file.len ≡ length bytes →
+        ensures causes { IfErr result (λ fault. IfSome (F.Files.told self.now.indexed.file.file) (λ bytes. self.now.indexed.file.len ≡ length bytes →
             IsOutside fault ⊎ IsFindRefused self.now bytes key.now fault)) }
         ensures cause { HasCause Fault.ReadFault (F.Files.faults port.old) (F.Files.faults port.new) result }
+        ensures once { CountsOnce (F.Files.faults port.old) (F.Files.faults port.new) result }
     {
         let Some(number) = block_for(self, key, hashed) else {
             return Ok(None);
         };
         let lent = mem::replace(buffer, Vec::new(alloc));
-        let handle = &self.index.as_slice()[number];
-        let frame = port.block(
-            alloc,
-            &self.file,
-            handle.at,
-            handle.len,
-            number as u64,
-            lent,
-        )?;
-        check_first(self.file.id, handle, frame.body())?;
-        let found = find_in_block(alloc, self.file.id, handle.at, frame.body(), key);
+        let id = self.id();
+        let handle = &self.indexed.handles()[number];
+        let frame = self.read_block(alloc, port, handle, number, lent)?;
+        check_first(id, handle, frame.body())?;
+        let found = find_in_block(alloc, id, handle.at, frame.body(), key);
         *buffer = frame.into_buffer();
         found
     }
@@ -104,43 +100,75 @@ impl<S: Drop> Table<S> {
         alloc: Global,
         port: &mut F,
     ) -> Result<Items<Entry>, Fault>
-        ensures listed { IfSome (F.Files.told self.now.file.file) (λ _. (entries : List Entry) → Represents F.Files.told self.now entries →
+        ensures listed { IfSome (F.Files.told self.now.indexed.file.file) (λ _. (entries : List Entry) → Represents F.Files.told self.now entries →
             Answers (Ok entries) result) }
-        ensures right { IfOk result (λ entries. AreEntries entries × AreCounted self.now.footer entries) }
-        ensures read { IfOk result (λ entries. IfSome (F.Files.told self.now.file.file) (λ bytes. self.now.file.len ≡ length bytes →
-            (blocks : List (List Entry)) × AreRead self.now.file.id bytes 0 self.now.index blocks × AreFilled block_body blocks
+        ensures right { IfOk result (λ entries. AreEntries entries × AreCounted self.now.indexed.footer entries) }
+        ensures read { IfOk result (λ entries. IfSome (F.Files.told self.now.indexed.file.file) (λ bytes. self.now.indexed.file.len ≡ length bytes →
+            (blocks : List (List Entry)) × AreRead self.now.indexed.file.id bytes 0 self.now.indexed.index blocks × AreFilled block_body blocks
             × (entries ≡ items_of blocks))) }
-        ensures whole { IfOk result (λ entries. IfSome (F.Files.told self.now.file.file) (λ bytes. self.now.file.len ≡ length bytes →
-            IsRead self.now.file.id bytes self.now → IsTableBut bytes self.now.footer.low self.now.footer.high entries self.now.filter)) }
+        ensures whole { IfOk result (λ entries. IfSome (F.Files.told self.now.indexed.file.file) (λ bytes. self.now.indexed.file.len ≡ length bytes →
+            IsRead self.now.indexed.file.id bytes self.now → IsTableBut bytes self.now.indexed.footer.low self.now.indexed.footer.high entries self.now.filter)) }
         ensures refusals { IfErr result (λ fault. IsOutside fault ⊎ HasUnfit self.now fault
-            ⊎ (fault ≡ Fault.Malformed self.now.file.id (self.now.file.len - 73))) }
-        ensures causes { IfErr result (λ fault. IfSome (F.Files.told self.now.file.file) (λ bytes. self.now.file.len ≡ length bytes →
+            ⊎ (fault ≡ Fault.Malformed self.now.indexed.file.id (self.now.indexed.file.len - 73))) }
+        ensures causes { IfErr result (λ fault. IfSome (F.Files.told self.now.indexed.file.file) (λ bytes. self.now.indexed.file.len ≡ length bytes →
             IsOutside fault ⊎ IsScanRefused self.now bytes fault)) }
         ensures cause { HasCause Fault.ReadFault (F.Files.faults port.old) (F.Files.faults port.new) result }
+        ensures once { CountsOnce (F.Files.faults port.old) (F.Files.faults port.new) result }
     {
         let mut entries = Items::new(alloc);
         let mut buffer = Vec::new(alloc);
         let mut len = BLOCK_LIMIT;
-        for number in 0..self.index.len() {
-            let handle = &self.index.as_slice()[number];
-            let frame = port.block(
-                alloc,
-                &self.file,
-                handle.at,
-                handle.len,
-                number as u64,
-                buffer,
-            )?;
+        let id = self.id();
+        let handles = self.indexed.handles();
+        for number in 0..handles.len() {
+            let handle = &handles[number];
+            let frame = self.read_block(alloc, port, handle, number, buffer)?;
             let listed = entries.len();
             let size = frame.body().len();
-            list_block(alloc, self.file.id, handle.at, frame.body(), &mut entries)?;
-            check_block(self.file.id, handle, entries.as_slice(), listed, len, size)?;
+            list_block(alloc, id, handle.at, frame.body(), &mut entries)?;
+            check_block(id, handle, entries.as_slice(), listed, len, size)?;
             len = size;
             buffer = frame.into_buffer();
         }
-        let footer_at = self.file.len.saturating_sub(FOOTER_LEN);
-        check_counts(self.file.id, footer_at, &self.footer, entries.as_slice())?;
+        let footer_at = self.sealed().len.saturating_sub(FOOTER_LEN);
+        check_counts(id, footer_at, self.indexed.footer(), entries.as_slice())?;
         Ok(entries)
+    }
+
+    /// What faults call the file.
+    fn id(&self) -> FileId
+        ensures { result ≡ self.now.indexed.file.id }
+    {
+        self.indexed.file().id
+    }
+
+    /// The block of this number, whose handle this is, in a buffer that is lent. Of the block it judges the frame alone.
+    fn read_block<F: Blocks<Sealed = S>>(
+        &self,
+        alloc: Global,
+        port: &mut F,
+        handle: &BlockHandle<Key>,
+        number: usize,
+        buffer: Vec<u8>,
+    ) -> Result<Block, Fault>
+        requires { handle.now.at < 2 ^ 62 }
+        ensures told { IfSome (F.Files.told self.now.indexed.file.file) (λ bytes. self.now.indexed.file.len ≡ length bytes →
+            Answers (read_at self.now.indexed.file.id bytes handle.now number) result) }
+        ensures stands { IfSome (F.Files.told self.now.indexed.file.file) (λ bytes. self.now.indexed.file.len ≡ length bytes →
+            IfOk result (λ body. StandsAt bytes handle.now.at (number, body))) }
+        ensures len { IfOk result (λ body. length body + 20 ≡ handle.now.len) }
+        ensures refusals { IfErr result (λ fault. IsOutside fault ⊎ IsUnfitAt self.now.indexed.file.id handle.now.at fault) }
+        ensures cause { HasCause Fault.ReadFault (F.Files.faults port.old) (F.Files.faults port.new) result }
+        ensures once { CountsOnce (F.Files.faults port.old) (F.Files.faults port.new) result }
+    {
+        port.block(
+            alloc,
+            self.indexed.file(),
+            handle.at,
+            handle.len,
+            number as u64,
+            buffer,
+        )
     }
 }
 
@@ -151,7 +179,7 @@ fn block_for<S>(table: &Table<S>, key: &Key, hashed: &HashedKey) -> Option<usize
         (IsSoughtNowhere table.now key.now)
         (λ number. IsSoughtIn table.now key.now number) }
     ensures only { (entries : List Entry) (blocks : List (List Entry)) →
-        IsTableOf table.now.footer.low table.now.footer.high entries blocks table.now.filter → table.now.index ≡ handles_from 0 blocks →
+        IsTableOf table.now.indexed.footer.low table.now.indexed.footer.high entries blocks table.now.filter → table.now.indexed.index ≡ handles_from 0 blocks →
         MatchOption result
         (entry_of key.now entries ≡ None)
         (λ number. HoldsAt (λ block. entry_of key.now entries ≡ entry_of key.now block) blocks number) }
@@ -159,26 +187,7 @@ fn block_for<S>(table: &Table<S>, key: &Key, hashed: &HashedKey) -> Option<usize
     if !table.filter.may_hold_hashed(hashed) {
         return None;
     }
-    blocks_up_to(table.index.as_slice(), key.bytes()).checked_sub(1)
-}
-
-/// A number of blocks, of which the last begins with no key above this one, and behind which a block with one above follows.
-fn blocks_up_to(index: &[BlockHandle<Key>], key: &[u8]) -> usize
-    ensures within { result ≤ length index.now }
-    ensures last { 0 < result → HoldsAt (λ handle. Precedes key.now handle.first → ⊥) index.now (result - 1) }
-    ensures following { result < length index.now → HoldsAt (λ handle. Precedes key.now handle.first) index.now result }
-{
-    let mut low = 0;
-    let mut high = index.len();
-    while low < high {
-        let middle = low + (high - low) / 2;
-        if key.cmp(index[middle].first.bytes()) == Ordering::Less {
-            high = middle;
-        } else {
-            low = middle + 1;
-        }
-    }
-    low
+    table.indexed.blocks_up_to(key).checked_sub(1)
 }
 
 /// Whether bytes begin with a pair of this key.

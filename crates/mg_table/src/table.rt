@@ -1,50 +1,46 @@
 //! A table as it is kept in memory.
 
-ghost use Rattle.std.specs.Prelude.{◌≡◌, All};
-ghost use Rattle.mg_table.specs.Index.{IsHandle};
+ghost use Rattle.std.specs.Prelude.{◌≡◌};
 
 use mg_bloom::Filter;
-use mg_indexed::{BlockHandle, Footer};
-use mg_items::Items;
+use mg_indexed::Indexed;
 use mg_sealed::SealedFile;
-use mg_types::Key;
+use mg_types::{Entry, Key};
 
 /// A sealed file of entries, of which the footer, the index and the filter are kept in memory, and no block.
 #[derive(Drop)]
 pub struct Table<S> {
-    pub(crate) file: SealedFile<S>,
-    pub(crate) index: Items<BlockHandle<Key>>,
+    pub(crate) indexed: Indexed<S, Key, Entry>,
     pub(crate) filter: Filter,
-    pub(crate) footer: Footer,
-    ghost handles: { All IsHandle index },
 }
 
 impl<S> Table<S> {
     /// The file itself, with what faults call it and its length.
     pub fn sealed(&self) -> &SealedFile<S>
-        ensures { result.now ≡ self.now.file }
+        ensures { result.now ≡ self.now.indexed.file }
     {
-        &self.file
+        self.indexed.file()
     }
 
     /// The number of entries.
     pub fn count(&self) -> u64
-        ensures { result ≡ self.now.footer.count }
+        ensures { result ≡ self.now.indexed.footer.count }
     {
-        self.footer.count
+        self.indexed.footer().count
     }
 
     /// The sum of the entries' sizes.
     pub fn bytes(&self) -> u64
-        ensures { result ≡ self.now.footer.sum }
+        ensures { result ≡ self.now.indexed.footer.sum }
     {
-        self.footer.sum
+        self.indexed.footer().sum
     }
 
     /// The interval of sequence numbers, above the first and up to the second, which the writer was given as a label of the table.
     pub fn span(&self) -> (u64, u64)
-        ensures { result ≡ (self.now.footer.low, self.now.footer.high) }
+        ensures { result ≡ (self.now.indexed.footer.low, self.now.indexed.footer.high) }
     {
-        (self.footer.low, self.footer.high)
+        let footer = self.indexed.footer();
+        (footer.low, footer.high)
     }
 }

@@ -135,8 +135,8 @@ fn the_worked_table_is_loaded(rt: HostRuntime) -> Result<(), Fail> {
     assert_eq!(rt; table.count(), 2);
     assert_eq!(rt; table.bytes(), 4);
     assert_eq!(rt; table.span(), (0, 3));
-    assert_eq!(rt; table.index.len(), 1);
-    let handle = &table.index.as_slice()[0];
+    assert_eq!(rt; table.indexed.handles().len(), 1);
+    let handle = &table.indexed.handles()[0];
     assert_eq!(rt; handle.first.bytes(), b"a".as_slice());
     assert_eq!(rt; (handle.at, handle.len), (0, 54));
     assert_eq!(rt;
@@ -505,7 +505,7 @@ fn each_of_many_keys_is_found_and_no_other(rt: HostRuntime) -> Result<(), Fail> 
     let table = writer.finish(alloc, &mut port)?;
     // Made by another program: 5,933 bytes, of which the first block's frame has the most.
     assert_eq!(rt; bytes_of(alloc, &mut port, &table)?.len(), 5_933);
-    assert_eq!(rt; table.index.len(), 2);
+    assert_eq!(rt; table.indexed.handles().len(), 2);
     // The filter was made for 5,000 keys with 65,536 bits, and folded to the 4,096 of 300 keys.
     assert_eq!(rt; table.filter.bytes().len(), 512);
     for number in 0..300u64 {

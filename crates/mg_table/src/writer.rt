@@ -5,13 +5,15 @@ ghost use Rattle.mg_block.specs.Block.{block_of, Follows, Precedes};
 ghost use Rattle.mg_block.specs.View.{last_pair};
 ghost use Rattle.mg_bloom.specs.Bloom.{bit_count, IsBitCountFor};
 ghost use Rattle.mg_bloom.specs.Folding.{KeepsWords};
-ghost use Rattle.mg_faults.specs.Causes.{HasCause};
+ghost use Rattle.mg_faults.specs.Causes.{CountsOnce, HasCause};
+ghost use Rattle.mg_indexed.specs.TableKeys.{table_keys};
+ghost use Rattle.mg_indexed.specs.Writing.{index_length};
 ghost use Rattle.mg_sealed.specs.Answers.{IsUnwritten};
 ghost use Rattle.mg_table.specs.Entries.{block_body, first_key, pair_of, payload_of};
 ghost use Rattle.mg_types.specs.Bytes.{IsKey};
 ghost use Rattle.mg_types.specs.Items.{IsEntry};
 ghost use Rattle.mg_table.specs.Table.{Represents};
-ghost use Rattle.mg_table.specs.Writing.{index_length, Fills, HasBlocks, HasEntries, HasRoom, IsFull, IsReady};
+ghost use Rattle.mg_table.specs.Writing.{Fills, HasBlocks, HasEntries, HasRoom, IsBegun, IsFull, IsOpen, IsPut};
 ghost use Rattle.mg_types.specs.declared.items.Entry.{Entry};
 
 use crate::entry::put_payload;
@@ -19,10 +21,8 @@ use crate::table::Table;
 use mg_block::BlockBuilder;
 use mg_bloom::Filter;
 use mg_disk::Files;
-use mg_frame::FRAME_OVERHEAD;
-use mg_indexed::{BlockHandle, Footer, footer_body, index_body};
-use mg_items::Items;
-use mg_sealed::{BLOCK_LIMIT, FrameWriter, append_frame, grown, seal_frames, start_frames};
+use mg_indexed::{ClosedBlocks, Summary};
+use mg_sealed::{BLOCK_LIMIT, grown};
 use mg_types::{Entry, Fault, FileId, Key};
 use std::alloc::{AllocError, Global};
 use std::marker::Model;
@@ -30,40 +30,18 @@ use std::marker::Model;
 /// The bytes of an item of the index beside its key.
 const HANDLE_OVERHEAD: u64 = 13;
 
-/// The blocks that were closed.
-#[derive(Drop)]
-struct Closed<D> {
-    frames: FrameWriter<D>,
-    index: Items<BlockHandle<Key>>,
-    /// How many bytes the body of the index has.
-    index_len: u64,
-}
-
-impl<D> Model for Closed<D> {
-    ghost use Rattle.std.specs.Prelude.{◌≡◌, length};
-    ghost use Rattle.mg_indexed.specs.Index.{index_bytes};
-    ghost use Rattle.mg_indexed.specs.TableKeys.{table_keys};
-    ghost use Rattle.mg_table.specs.Writing.{ClosedBlocks, AreBounded};
-
-    ghost Value = { ClosedBlocks D };
-
-    ghost view = { λ c. record { frames = c.frames; index = c.index } };
-
-    ghost invariant = { λ c. AreBounded (record { frames = c.frames; index = c.index }) × (c.index_len ≡ length (index_bytes table_keys c.index)) };
-}
-
 /// A table in writing.
 ///
-/// It keeps one block, the index, and the bits of a filter for as many entries as may come at most: 10 to 20 bits for each of
-/// them, and no more than 2^31. At the end the filter is folded to the size for the entries that came. So a bound that is far
-/// too great changes nothing of the table; it costs the memory of its bits while the table is written, and the time to clear
-/// and to fold them. After an error the writer is only dropped.
+/// It keeps one block, and two of them for the moment in which one is closed, the index, and the bits of a filter for as many entries as
+/// may come at most: 10 to 20 bits for each of them, and no more than 2^31. At the end the filter is folded to the size for the entries
+/// that came. So a bound that is far too great changes nothing of the table; it costs the memory of its bits while the table is
+/// written, and the time to clear and to fold them. After an error the writer is only dropped.
 #[derive(Drop)]
 pub struct TableWriter<D> {
     id: FileId,
     lo: u64,
     hi: u64,
-    closed: Closed<D>,
+    closed: ClosedBlocks<D, Key, Entry>,
     block: BlockBuilder,
     first_key: Vec<u8>,
     filter: Filter,
@@ -127,19 +105,14 @@ impl<D: Drop> TableWriter<D> {
         ensures empty { IfOk result (λ writer. (writer.block ≡ []) × (writer.count ≡ 0) × (writer.closed.index ≡ [])) }
         ensures outside { IfErr result (λ fault. IsUnwritten fault) }
         ensures cause { HasCause Fault.WriteFault (F.faults port.old) (F.faults port.new) result }
+        ensures once { CountsOnce (F.faults port.old) (F.faults port.new) result }
     {
         let filter = Filter::sized(alloc, most)?;
-        let frames = start_frames(alloc, port)?;
-        let closed = Closed {
-            frames,
-            index: Items::new(alloc),
-            index_len: 0,
-        };
         Ok(TableWriter {
             id,
             lo,
             hi,
-            closed,
+            closed: ClosedBlocks::new(alloc, port)?,
             block: BlockBuilder::new(alloc),
             first_key: Vec::new(alloc),
             filter,
@@ -169,8 +142,9 @@ impl<D: Drop> TableWriter<D> {
         ensures last { OnOk result ((self.new.block ≢ []) × ((last_pair self.new.block).key ≡ entry.now.key)) }
         ensures count { OnOk result (self.new.count ≡ self.old.count + 1) }
         ensures refusals { IfErr result (λ fault. IsUnwritten fault
-            ⊎ (IsFull self.old.closed self.old.block self.old.first (pair_of entry.now) fault × (self.new ≡ self.old))) }
+            ⊎ (IsFull self.old.closed.index self.old.block self.old.first (pair_of entry.now) fault × (self.new ≡ self.old))) }
         ensures cause { HasCause Fault.WriteFault (F.faults port.old) (F.faults port.new) result }
+        ensures once { CountsOnce (F.faults port.old) (F.faults port.new) result }
     {
         let key = entry.key.bytes();
         self.payload.clear();
@@ -182,17 +156,15 @@ impl<D: Drop> TableWriter<D> {
             key,
             &self.payload,
         )?;
-        make_room(
+        put_pair(
             alloc,
             port,
             &mut self.closed,
             &mut self.block,
-            &self.first_key,
+            &mut self.first_key,
             key,
             &self.payload,
         )?;
-        keep_first(&self.block, key, &mut self.first_key)?;
-        push_pair(&mut self.block, key, &self.payload)?;
         self.filter.put(key);
         self.count += 1;
         self.sizes += u64::from(entry.size);
@@ -208,10 +180,11 @@ impl<D: Drop> TableWriter<D> {
         requires some { self.block ≢ [] }
         ensures table { (entries : List Entry) → HasEntries F.drafted self entries →
             IfOk result (λ table. Represents F.told table entries) }
-        ensures span { IfOk result (λ table. (table.footer.low ≡ self.lo) × (table.footer.high ≡ self.hi)) }
-        ensures id { IfOk result (λ table. table.file.id ≡ self.id) }
+        ensures span { IfOk result (λ table. (table.indexed.footer.low ≡ self.lo) × (table.indexed.footer.high ≡ self.hi)) }
+        ensures id { IfOk result (λ table. table.indexed.file.id ≡ self.id) }
         ensures refusals { IfErr result (λ fault. IsUnwritten fault) }
         ensures cause { HasCause Fault.WriteFault (F.faults port.old) (F.faults port.new) result }
+        ensures once { CountsOnce (F.faults port.old) (F.faults port.new) result }
     {
         let TableWriter {
             id,
@@ -227,63 +200,44 @@ impl<D: Drop> TableWriter<D> {
             payload: _,
         } = self;
         let filter = folded(alloc, filter, count)?;
-        close_block(alloc, port, &mut closed, block.bytes(), &first_key)?;
-        let Closed {
-            mut frames,
-            index,
-            index_len: _,
-        } = closed;
-        let blocks = frames.count() as u32;
-        let index_bytes = index_body(alloc, index.as_slice())?;
-        let index_at = append_frame(alloc, port, &mut frames, &index_bytes)?.at;
-        let filter_at = append_frame(alloc, port, &mut frames, filter.bytes())?.at;
-        let footer = Footer {
+        close_block(alloc, port, &mut closed, &block, &first_key)?;
+        let summary = Summary {
             count,
             sum: sizes,
             low: lo,
             high: hi,
-            index_at,
-            filter_at: Some(filter_at),
-            blocks,
         };
-        append_frame(alloc, port, &mut frames, &footer_body(alloc, &footer)?)?;
-        let file = seal_frames(alloc, port, frames, id)?;
-        Ok(Table {
-            file,
-            index,
-            filter,
-            footer,
-        })
+        let indexed = closed.finish(alloc, port, id, &summary, filter.bytes())?;
+        Ok(Table { indexed, filter })
     }
 }
 
-/// Puts the frame of a block behind the others, and its handle into the index.
+/// Closes the open block, if there is one: puts its frame behind the others, and its handle into the index. After an error the index
+/// is as it was.
 fn close_block<F: Files>(
     alloc: Global,
     port: &mut F,
-    closed: &mut Closed<F::Draft>,
-    block: &[u8],
+    closed: &mut ClosedBlocks<F::Draft, Key, Entry>,
+    block: &BlockBuilder,
     first: &[u8],
 ) -> Result<(), Fault>
-    requires block { length block.now ≤ 4096 }
-    requires first { IsKey first.now }
-    requires room { index_length closed.old + (length first.now + 13) < 2 ^ 32 }
-    ensures index { OnOk result (index_length closed.new ≡ index_length closed.old + (length first.now + 13)) }
-    ensures blocks { (blocks : List (List Entry)) (entries : List Entry) → HasBlocks F.drafted closed.old blocks
-        → block.now ≡ block_body entries → first.now ≡ first_key entries
-        → OnOk result (HasBlocks F.drafted closed.new (blocks ++ entries ∷ [])) }
+    requires { IsBegun closed.old.index block.now first.now }
+    ensures none { block.now ≡ [] → closed.new ≡ closed.old }
+    ensures index { block.now ≢ [] → OnOk result (closed.new.index ≡
+        closed.old.index ++ record { first = first.now; at = closed.old.frames.len; len = length (block_of block.now) + 20 } ∷ []) }
+    ensures blocks { (blocks : List (List Entry)) (last : List Entry) → HasBlocks F.drafted closed.old blocks
+        → block.now ≢ [] → block.now ≡ map pair_of last → first.now ≡ first_key last
+        → OnOk result (HasBlocks F.drafted closed.new (blocks ++ last ∷ [])) }
+    ensures kept { OnErr result (closed.new.index ≡ closed.old.index) }
     ensures refusals { IfErr result (λ fault. IsUnwritten fault) }
     ensures cause { HasCause Fault.WriteFault (F.faults port.old) (F.faults port.new) result }
+    ensures once { CountsOnce (F.faults port.old) (F.faults port.new) result }
 {
+    if block.is_empty() {
+        return Ok(());
+    }
     let key = key_of(alloc, first)?;
-    closed.index.push(BlockHandle {
-        first: key,
-        at: closed.frames.len(),
-        len: block.len() as u32 + FRAME_OVERHEAD as u32,
-    })?;
-    closed.index_len += first.len() as u64 + HANDLE_OVERHEAD;
-    append_frame(alloc, port, &mut closed.frames, block)?;
-    Ok(())
+    closed.close(alloc, port, key, block.bytes())
 }
 
 /// The key of these bytes.
@@ -298,8 +252,8 @@ fn key_of(alloc: Global, bytes: &[u8]) -> Result<Key, Fault>
 
 /// Judges that the index has room for the handle of the block that an entry of this key and payload begins, if it begins one.
 /// The handle of the open block is counted as if the index had it.
-fn check_room<D>(
-    closed: &Closed<D>,
+fn check_room<D: Drop>(
+    closed: &ClosedBlocks<D, Key, Entry>,
     block: &BlockBuilder,
     first: &[u8],
     key: &[u8],
@@ -307,40 +261,21 @@ fn check_room<D>(
 ) -> Result<(), Fault>
     requires first { length first.now ≤ 250 }
     requires follows { Follows (last_pair block.now).key (record { key = key.now; payload = payload.now }) }
-    requires room { block.now ≢ [] → index_length closed.now + (length first.now + 13) < 2 ^ 32 }
+    requires room { block.now ≢ [] → index_length table_keys closed.now.index + (length first.now + 13) < 2 ^ 32 }
     ensures { MatchResult result
-        (λ _. HasRoom closed.now block.now first.now (record { key = key.now; payload = payload.now }))
-        (λ fault. IsFull closed.now block.now first.now (record { key = key.now; payload = payload.now }) fault) }
+        (λ _. HasRoom closed.now.index block.now first.now (record { key = key.now; payload = payload.now }))
+        (λ fault. IsFull closed.now.index block.now first.now (record { key = key.now; payload = payload.now }) fault) }
 {
     let more = key.len() as u64 + HANDLE_OVERHEAD;
+    let len = closed.index_len();
     if block.is_empty() {
-        grown(closed.index_len, more)?;
+        grown(len, more)?;
         return Ok(());
     }
     if block.size_with(key, payload) > BLOCK_LIMIT {
-        grown(
-            closed.index_len + (first.len() as u64 + HANDLE_OVERHEAD),
-            more,
-        )?;
+        grown(len + (first.len() as u64 + HANDLE_OVERHEAD), more)?;
     }
     Ok(())
-}
-
-/// Keeps the key as the first one where the block is empty.
-fn keep_first(block: &BlockBuilder, key: &[u8], first: &mut Vec<u8>) -> Result<(), AllocError>
-    requires key { length key.now ≤ 250 }
-    requires first { length first.old.items ≤ 250 }
-    ensures begun { OnOk result (block.now ≡ [] → first.new.items ≡ key.now) }
-    ensures kept { OnOk result (block.now ≢ [] → first.new.items ≡ first.old.items) }
-    ensures bound { length first.new.items ≤ 250 }
-    ensures key { OnOk result (IsKey key.now → (block.now ≢ [] → IsKey first.old.items) → IsKey first.new.items) }
-    ensures err { OnErr result (block.now ≡ []) }
-{
-    if !block.is_empty() {
-        return Ok(());
-    }
-    first.clear();
-    first.extend_from_slice(key)
 }
 
 /// Puts a pair into the block.
@@ -356,40 +291,54 @@ fn push_pair(block: &mut BlockBuilder, key: &[u8], payload: &[u8]) -> Result<(),
     }
 }
 
-/// Closes the open block where an entry of this key and payload would bring it above the limit. Where that fails too, no block
-/// is open then.
-fn make_room<F: Files>(
+/// A block of one pair, and its first key.
+fn begun_block(alloc: Global, key: &[u8], payload: &[u8]) -> Result<(BlockBuilder, Vec<u8>), Fault>
+    requires { Follows [] (record { key = key.now; payload = payload.now }) }
+    ensures begun { IfOk result (λ begun. (begun.0 ≡ record { key = key.now; payload = payload.now } ∷ []) × (begun.1.items ≡ key.now)) }
+    ensures memory { IfErr result (λ fault. fault ≡ Fault.NoMemory) }
+{
+    let mut block = BlockBuilder::new(alloc);
+    push_pair(&mut block, key, payload)?;
+    let mut first = Vec::new(alloc);
+    first.extend_from_slice(key)?;
+    Ok((block, first))
+}
+
+/// Puts a pair into the open block, or, where that would bring the block above the limit or none is open, into a new one, with which
+/// the open one is closed. After an error the open block, its first key and the index are as they were.
+fn put_pair<F: Files>(
     alloc: Global,
     port: &mut F,
-    closed: &mut Closed<F::Draft>,
+    closed: &mut ClosedBlocks<F::Draft, Key, Entry>,
     block: &mut BlockBuilder,
-    first: &[u8],
+    first: &mut Vec<u8>,
     key: &[u8],
     payload: &[u8],
 ) -> Result<(), Fault>
-    requires block { length (block_of block.old) ≤ 4096 }
-    requires first { block.old ≢ [] → IsKey first.now }
+    requires begun { IsBegun closed.old.index block.old first.old.items }
     requires follows { Follows (last_pair block.old).key (record { key = key.now; payload = payload.now }) }
+    requires key { IsKey key.now }
     requires payload { length payload.now ≡ 13 }
-    requires room { HasRoom closed.old block.old first.now (record { key = key.now; payload = payload.now }) }
-    ensures room { OnOk result (block.new ≡ [] → index_length closed.new + (length key.now + 13) < 2 ^ 32) }
-    ensures kept { block.new ≢ [] → (closed.new ≡ closed.old) × (block.new ≡ block.old) }
-    ensures ready { (blocks : List (List Entry)) (last : List Entry) (entry : Entry) → HasBlocks F.drafted closed.old blocks
-        → block.old ≡ map pair_of last → (last ≢ [] → first.now ≡ first_key last) → Fills blocks last
+    requires room { HasRoom closed.old.index block.old first.old.items (record { key = key.now; payload = payload.now }) }
+    ensures last { OnOk result ((block.new ≢ []) × ((last_pair block.new).key ≡ key.now)) }
+    ensures opened { OnOk result (IsOpen closed.new.index block.new first.new.items) }
+    ensures kept { OnErr result ((closed.new.index ≡ closed.old.index) × (block.new ≡ block.old) × (first.new.items ≡ first.old.items)) }
+    ensures put { (blocks : List (List Entry)) (last : List Entry) (entry : Entry) → HasBlocks F.drafted closed.old blocks
+        → block.old ≡ map pair_of last → (last ≢ [] → first.old.items ≡ first_key last) → Fills blocks last
         → key.now ≡ entry.key → payload.now ≡ payload_of entry
-        → OnOk result (IsReady F.drafted closed.new block.new blocks last entry) }
-    ensures fits { length (block_of (block.new ++ record { key = key.now; payload = payload.now } ∷ [])) ≤ 4096 }
-    ensures follows { Follows (last_pair block.new).key (record { key = key.now; payload = payload.now }) }
-    ensures bound { length (block_of block.new) ≤ 4096 }
+        → OnOk result (IsPut F.drafted closed.new block.new first.new.items blocks last entry) }
     ensures refusals { IfErr result (λ fault. IsUnwritten fault) }
     ensures cause { HasCause Fault.WriteFault (F.faults port.old) (F.faults port.new) result }
+    ensures once { CountsOnce (F.faults port.old) (F.faults port.new) result }
 {
-    if block.is_empty() || block.size_with(key, payload) <= BLOCK_LIMIT {
-        return Ok(());
+    if !block.is_empty() && block.size_with(key, payload) <= BLOCK_LIMIT {
+        return push_pair(block, key, payload);
     }
-    let closing = close_block(alloc, port, closed, block.bytes(), first);
-    block.clear();
-    closing
+    let (next, next_first) = begun_block(alloc, key, payload)?;
+    close_block(alloc, port, closed, block, first)?;
+    *block = next;
+    *first = next_first;
+    Ok(())
 }
 
 /// The filter folded to the size for so many keys, in memory of that size.

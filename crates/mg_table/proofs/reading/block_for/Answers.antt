@@ -1,8 +1,5 @@
-use Rattle.std.proofs.Common.{List, ℕ, ◌≡◌, inl, ◌∙◌, ◌-◌, ◌<◌, ◌≤◌, false, true, length, sym, ap, subst, rules}
-use Rattle.std.specs.List.{HoldsAt}
-use Rattle.mg_block.specs.Block.{Precedes}
+use Rattle.std.proofs.Common.{◌≡◌, inl, ◌∙◌, ◌-◌, false, true, refl, sym, ap, arith, rules}
 use Rattle.mg_bloom.specs.Bloom.{has_words, key_words}
-use Rattle.mg_indexed.specs.declared.handle.BlockHandle.{BlockHandle}
 use Rattle.mg_table.proofs.FindingLaws.{chosen, none-denied, sought}
 use Rattle.mg_table.proofs.reading.block_for.Goals as goal
 
@@ -16,14 +13,12 @@ returns-then-not-may_hold_hashed-clause-only g c = λ entries blocks is indexed.
 pub returns-clause-only : goal.returns-clause-only
 returns-clause-only g c = λ entries blocks is indexed.
     let table = c.args.table.now in
-    let key = c.args.key.now in
-    chosen table.footer.low table.footer.high entries blocks table.filter key table.index c.blocks_up_to.result c.checked_sub.result is indexed
-    (subst (λ ps. c.blocks_up_to.result ≤ length ps) c.as_slice.ensures c.blocks_up_to.ensures.within)
-    (λ some. subst (λ ps. HoldsAt (λ (handle : BlockHandle (List ℕ)). Precedes key handle.first → ⊥) ps (c.blocks_up_to.result - 1)) c.as_slice.ensures
-    (subst (λ k. HoldsAt (λ (handle : BlockHandle (List ℕ)). Precedes k handle.first → ⊥) c.as_slice.result.now (c.blocks_up_to.result - 1)) c.bytes.ensures.bytes (c.blocks_up_to.ensures.last some)))
-    (λ more. subst (λ ps. HoldsAt (λ (handle : BlockHandle (List ℕ)). Precedes key handle.first) ps c.blocks_up_to.result) c.as_slice.ensures
-    (subst (λ k. HoldsAt (λ (handle : BlockHandle (List ℕ)). Precedes k handle.first) c.as_slice.result.now c.blocks_up_to.result) c.bytes.ensures.bytes
-    (c.blocks_up_to.ensures.following (subst (λ ps. c.blocks_up_to.result < length ps) (sym c.as_slice.ensures) more))))
+    let count = c.blocks_up_to.result in
+    let point = c.blocks_up_to.ensures.point in
+    chosen table.indexed.footer.low table.indexed.footer.high entries blocks table.filter c.args.key.now table.indexed.index count c.checked_sub.result is indexed
+    c.blocks_up_to.ensures.within
+    (λ some d. point.0 (count - 1) d (omega arith) (omega (arith, some)))
+    (λ more d. point.1 count d (omega arith) more)
     c.checked_sub.ensures
 
 pub returns-clause-sought : goal.returns-clause-sought
@@ -32,10 +27,11 @@ returns-clause-sought g c =
     let key = c.args.key.now in
     let answered : c.may_hold_hashed.result ≡ true = search rules in
     let held : has_words table.filter (key_words key) ≡ true = ap (has_words table.filter) (sym c.requires) ∙ sym c.may_hold_hashed.ensures ∙ answered in
-    let index = c.as_slice.result.now in
-    sought table key index c.blocks_up_to.result c.checked_sub.result c.as_slice.ensures held c.blocks_up_to.ensures.within
-    (λ some. subst (λ k. HoldsAt (λ (handle : BlockHandle (List ℕ)). Precedes k handle.first → ⊥) index (c.blocks_up_to.result - 1)) c.bytes.ensures.bytes (c.blocks_up_to.ensures.last some))
-    (λ more. subst (λ k. HoldsAt (λ (handle : BlockHandle (List ℕ)). Precedes k handle.first) index c.blocks_up_to.result) c.bytes.ensures.bytes (c.blocks_up_to.ensures.following more))
+    let count = c.blocks_up_to.result in
+    let point = c.blocks_up_to.ensures.point in
+    sought table key table.indexed.index count c.checked_sub.result refl held c.blocks_up_to.ensures.within
+    (λ some d. point.0 (count - 1) d (omega arith) (omega (arith, some)))
+    (λ more d. point.1 count d (omega arith) more)
     c.checked_sub.ensures
 
 pub returns-then-not-may_hold_hashed-clause-sought : goal.returns-then-not-may_hold_hashed-clause-sought

@@ -1,53 +1,47 @@
-use Rattle.std.proofs.Common.{ap, ◌≡◌, ◌+◌, ◌∙◌, map, sym, subst, length, arith}
-use Rattle.mg_table.specs.Entries.{block_body, first_key}
-use Rattle.mg_indexed.specs.Index.{index_bytes}
-use Rattle.mg_indexed.specs.TableKeys.{table_keys}
-use Rattle.mg_table.specs.Writing.{index_length, HasBlocks}
-use Rattle.mg_table.proofs.FinishLaws.{closed-bounded, closes}
-use Rattle.mg_indexed.proofs.HandleLaws.{least-index_bytes}
+use Rattle.std.proofs.Common.{◌≡◌, ◌+◌, ◌∙◌, [], ◌∷◌, ◌++◌, List, ℕ, OnOk, ap, map, sym, subst, length, refl, arith}
+use Rattle.mg_block.specs.Block.{block_of}
+use Rattle.mg_frame.proofs.SplitLaws.{length-counted}
+use Rattle.mg_sealed.specs.Writing.{HasFrames}
+use Rattle.mg_indexed.specs.Forms.{table_form, IsFrameLength}
+use Rattle.mg_indexed.specs.Index.{first_after}
+use Rattle.mg_indexed.specs.TableKeys.{MayFollow}
+use Rattle.mg_indexed.specs.declared.handle.BlockHandle.{BlockHandle}
+use Rattle.mg_table.specs.Entries.{block_body}
+use Rattle.mg_table.specs.Writing.{HasBlocks}
+use Rattle.mg_table.proofs.FinishLaws.{both_ok, closes}
+use Rattle.mg_table.proofs.WriterLaws.{opened}
 use Rattle.mg_table.proofs.writer.close_block.Goals as goal
 
-pub returns-clause-blocks : goal.returns-clause-blocks
-returns-clause-blocks g c = λ blocks entries has is first.
-    let drafted = g.F.Files.drafted in
-    let has' = subst (λ w. HasBlocks drafted w blocks) (sym c.closed.view_is) has in
-    let key : c.in_ok-key.key ≡ first_key entries = c.in_ok-key.ensures.key ∙ first in
-    let at : c.len.result ≡ c.closed.inside.frames.len = grind arith in
-    closes drafted (record { frames = c.closed.inside.frames; index = c.closed.inside.index }) (record { frames = c.append_frame.new.writer; index = c.push.new.self })
-    blocks entries c.args.block.now _ has' (c.in_ok-append_frame.ensures.frames (map block_body blocks) has'.frames) c.in_ok-push.ensures.ok key at (grind arith) is
+pub close-requires-clause-follows : goal.close-requires-clause-follows
+close-requires-clause-follows g c =
+    let index = c.args.closed.now.index in
+    let held = opened index c.args.block.now c.args.first.now c.requires (λ none. cc (c.is_empty.ensures.1 none, c.if-is_empty.false)) in
+    subst (λ (k : List ℕ). MayFollow (first_after [] index) k) (sym c.in_ok-key.ensures.key) held.follows
 
-pub append_frame-requires-clause-room : goal.append_frame-requires-clause-room
-append_frame-requires-clause-room g c =
-    let b = c.closed.invariant.0 in
-    omega (arith, least-index_bytes table_keys c.closed.inside.index, b.bytes, b.index, b.len, c.requires.block)
+pub close-requires-clause-body : goal.close-requires-clause-body
+close-requires-clause-body g c =
+    let held = opened c.args.closed.now.index c.args.block.now c.args.first.now c.requires (λ none. cc (c.is_empty.ensures.1 none, c.if-is_empty.false)) in
+    subst (λ (b : List ℕ). IsFrameLength table_form (length b + 20)) (sym c.bytes.ensures.block) (omega (arith, held.least), omega (arith, held.most), omega (arith, held.most))
 
-pub invariant_of-closed-in_err-append_frame : goal.invariant_of-closed-in_err-append_frame
-invariant_of-closed-in_err-append_frame g c =
-    let key : length c.in_ok-key.key ≡ length c.args.first.now = ap length c.in_ok-key.ensures.key in
-    let len = c.closed.inside.index_len + (length c.args.first.now + 13) in
-    let view : length (index_bytes table_keys c.closed.inside.index) ≡ index_length c.args.closed.now = ap (λ w. length (index_bytes table_keys w.index)) c.closed.view_is in
-    closed-bounded (record { frames = c.closed.inside.frames; index = c.closed.inside.index }) c.append_frame.new.writer _ c.push.new.self len
-    c.closed.invariant.0 c.in_ok-push.ensures.ok (omega (arith, key, c.requires.first.1)) c.len.ensures
-    (omega (arith, c.in_err-append_frame.ensures.err.0, c.in_err-append_frame.ensures.err.1)) (omega (arith, c.in_err-append_frame.ensures.err.1))
-    (omega (arith, key, c.closed.invariant.1)) (omega (arith, c.closed.invariant.1, view, c.requires.room))
-
-pub invariant_of-closed-2 : goal.invariant_of-closed-2
-invariant_of-closed-2 g c =
-    let key : length c.in_ok-key.key ≡ length c.args.first.now = ap length c.in_ok-key.ensures.key in
-    let len = c.closed.inside.index_len + (length c.args.first.now + 13) in
-    let view : length (index_bytes table_keys c.closed.inside.index) ≡ index_length c.args.closed.now = ap (λ w. length (index_bytes table_keys w.index)) c.closed.view_is in
-    closed-bounded (record { frames = c.closed.inside.frames; index = c.closed.inside.index }) c.append_frame.new.writer _ c.push.new.self len
-    c.closed.invariant.0 c.in_ok-push.ensures.ok (omega (arith, key, c.requires.first.1)) c.len.ensures
-    (omega (arith, c.in_ok-append_frame.ensures.len, c.in_ok-append_frame.ensures.count, c.requires.block)) (omega (arith, c.in_ok-append_frame.ensures.count))
-    (omega (arith, key, c.closed.invariant.1)) (omega (arith, c.closed.invariant.1, view, c.requires.room))
+pub close-requires-clause-room : goal.close-requires-clause-room
+close-requires-clause-room g c =
+    let held = opened c.args.closed.now.index c.args.block.now c.args.first.now c.requires (λ none. cc (c.is_empty.ensures.1 none, c.if-is_empty.false)) in
+    omega (arith, held.room, length-counted 1 c.in_ok-key.key, ap length c.in_ok-key.ensures.key)
 
 pub returns-clause-index : goal.returns-clause-index
-returns-clause-index g c =
-    let key : length c.in_ok-key.key ≡ length c.args.first.now = ap length c.in_ok-key.ensures.key in
-    let len = c.closed.inside.index_len + (length c.args.first.now + 13) in
-    let view : length (index_bytes table_keys c.closed.inside.index) ≡ index_length c.args.closed.now = ap (λ w. length (index_bytes table_keys w.index)) c.closed.view_is in
-    let both = closed-bounded (record { frames = c.closed.inside.frames; index = c.closed.inside.index }) c.append_frame.new.writer _ c.push.new.self len
-    c.closed.invariant.0 c.in_ok-push.ensures.ok (omega (arith, key, c.requires.first.1)) c.len.ensures
-    (omega (arith, c.in_ok-append_frame.ensures.len, c.in_ok-append_frame.ensures.count, c.requires.block)) (omega (arith, c.in_ok-append_frame.ensures.count))
-    (omega (arith, key, c.closed.invariant.1)) (omega (arith, c.closed.invariant.1, view, c.requires.room)) in
-    omega (arith, both.1, c.closed.invariant.1, view)
+returns-clause-index g c = λ some.
+    let old = c.args.closed.now in
+    let new = c.close.new.self in
+    let Handle : List ℕ → List ℕ → Type 0 = λ first bytes.
+    OnOk c.close.result (new.index ≡ old.index ++ record { first = first; at = old.frames.len; len = length bytes + 20 } ∷ []) in
+    subst (λ (first : List ℕ). Handle first (block_of c.args.block.now)) c.in_ok-key.ensures.key (subst (λ (bytes : List ℕ). Handle c.in_ok-key.key bytes) c.bytes.ensures.block c.close.ensures.index)
+
+pub returns-clause-blocks : goal.returns-clause-blocks
+returns-clause-blocks g c = λ blocks last has some is first.
+    let drafted = g.F.Files.drafted in
+    let old = c.args.closed.now in
+    let new = c.close.new.self in
+    let handle : BlockHandle (List ℕ) = record { first = c.in_ok-key.key; at = old.frames.len; len = length c.bytes.result.now + 20 } in
+    both_ok c.close.result (HasFrames drafted new.frames (map block_body blocks ++ c.bytes.result.now ∷ [])) (new.index ≡ old.index ++ handle ∷ []) (HasBlocks drafted new (blocks ++ last ∷ []))
+    (λ frames pushed. closes drafted old new blocks last c.bytes.result.now handle has frames pushed (c.in_ok-key.ensures.key ∙ first) refl refl (c.bytes.ensures.block ∙ ap block_of is))
+    (c.close.ensures.frames (map block_body blocks) has.frames) c.close.ensures.index

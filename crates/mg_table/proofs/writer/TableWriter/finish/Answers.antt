@@ -1,60 +1,44 @@
-use Rattle.std.proofs.Common.{true, ◌<◌, ◌^◌, ◌≡◌, ◌≢◌, ◌+◌, ◌∙◌, List, [], ◌∷◌, ◌++◌, ℕ, Some, map, sym, refl, ap, subst, length, arith}
-use Rattle.mg_block.specs.Block.{block_of}
-use Rattle.mg_sealed.specs.Writing.{HasFrames}
-use Rattle.mg_table.specs.Entries.{pair_of}
-use Rattle.mg_indexed.specs.Footer.{footer_bytes}
-use Rattle.mg_indexed.specs.declared.footer.Footer.{Footer}
-use Rattle.mg_indexed.specs.Index.{index_bytes}
+use Rattle.std.proofs.Common.{true, ◌≡◌, ◌≢◌, ◌+◌, ◌∙◌, List, [], ◌∷◌, ◌++◌, ℕ, map, sym, ap, subst, length, arith, IfSome}
+use Rattle.mg_frame.specs.Frames.{numbered_frames}
+use Rattle.mg_frame.proofs.SplitLaws.{length-counted}
+use Rattle.mg_sealed.proofs.FilledLaws.{push-some}
 use Rattle.mg_indexed.specs.TableKeys.{table_keys}
-use Rattle.mg_table.specs.Writing.{HasBlocks, IsWriting}
+use Rattle.mg_indexed.specs.Writing.{file_bodies, index_length}
+use Rattle.mg_indexed.specs.declared.handle.BlockHandle.{BlockHandle}
+use Rattle.mg_indexed.proofs.WritingLaws.{index_length-push}
+use Rattle.mg_block.specs.Block.{block_of}
+use Rattle.mg_table.specs.Entries.{pair_of}
+use Rattle.mg_table.specs.Writing.{HasBlocks, IsBegun, IsWriting}
 use Rattle.mg_table.proofs.FinishLaws.{finished}
-use Rattle.mg_indexed.proofs.FieldLaws.{length-footer_bytes}
-use Rattle.mg_indexed.proofs.HandleLaws.{least-index_bytes}
+use Rattle.mg_table.proofs.WriterLaws.{opened}
 use Rattle.mg_table.proofs.writer.TableWriter.finish.Goals as goal
 
-pub append_frame-requires-clause-body : goal.append_frame-requires-clause-body
-append_frame-requires-clause-body g c =
-    let bytes : c.deref-2.result.now ≡ index_bytes table_keys c.closed-2.inside.index = c.deref-2.ensures.value ∙ c.in_ok-index_bytes.ensures ∙ ap (index_bytes table_keys) c.as_slice.ensures in
-    let least = least-index_bytes table_keys c.closed-2.inside.index in
-    let inv = c.closed-2.invariant.0 in
-    omega (arith, ap length bytes, least, inv.bytes, inv.index, inv.len)
+pub close_block-requires : goal.close_block-requires
+close_block-requires g c =
+    let inside = c.self.inside in
+    subst (λ (first : List ℕ). IsBegun inside.closed.index inside.block first) (sym c.deref.ensures.value) c.self.invariant.begun
 
-pub append_frame-requires-clause-room : goal.append_frame-requires-clause-room
-append_frame-requires-clause-room g c =
-    let bytes : c.deref-2.result.now ≡ index_bytes table_keys c.closed-2.inside.index = c.deref-2.ensures.value ∙ c.in_ok-index_bytes.ensures ∙ ap (index_bytes table_keys) c.as_slice.ensures in
-    let least = least-index_bytes table_keys c.closed-2.inside.index in
-    let inv = c.closed-2.invariant.0 in
-    omega (arith, ap length bytes, least, inv.bytes, inv.index, inv.len)
+pub finish-requires-clause-some : goal.finish-requires-clause-some
+finish-requires-clause-some g c = λ none.
+    let inside = c.self.inside in
+    let begun : inside.block ≢ [] = λ empty. c.requires.some (sym (ap (λ w. w.block) c.self.view_is) ∙ empty) in
+    push-some inside.closed.index _ (sym (c.in_ok-close_block.ensures.index begun) ∙ none)
 
-pub append_frame-requires-2-clause-room : goal.append_frame-requires-2-clause-room
-append_frame-requires-2-clause-room g c =
-    let bytes : c.deref-2.result.now ≡ index_bytes table_keys c.closed-2.inside.index = c.deref-2.ensures.value ∙ c.in_ok-index_bytes.ensures ∙ ap (index_bytes table_keys) c.as_slice.ensures in
-    let least = least-index_bytes table_keys c.closed-2.inside.index in
-    let inv = c.closed-2.invariant.0 in
-    omega (arith, ap length bytes, least, inv.bytes, inv.index, inv.len, c.in_ok-index_at.ensures.len, c.bytes-2.ensures.size.at_most, ap length c.bytes-2.ensures.body)
-
-pub append_frame-requires-3-clause-body : goal.append_frame-requires-3-clause-body
-append_frame-requires-3-clause-body g c =
-    let said : Footer = record { count = c.self.inside.count; sum = c.self.inside.sizes; low = c.self.inside.lo; high = c.self.inside.hi; index_at = c.in_ok-index_at.field-0.at; filter_at = Some c.in_ok-filter_at.field-0.at; blocks = c.count-blocks.result } in
-    let footer = c.deref-3.ensures.value ∙ c.in_ok-footer_body.ensures in
-    omega (arith, ap length footer, length-footer_bytes true said refl)
-
-pub append_frame-requires-3-clause-room : goal.append_frame-requires-3-clause-room
-append_frame-requires-3-clause-room g c =
-    let bytes : c.deref-2.result.now ≡ index_bytes table_keys c.closed-2.inside.index = c.deref-2.ensures.value ∙ c.in_ok-index_bytes.ensures ∙ ap (index_bytes table_keys) c.as_slice.ensures in
-    let least = least-index_bytes table_keys c.closed-2.inside.index in
-    let inv = c.closed-2.invariant.0 in
-    let said : Footer = record { count = c.self.inside.count; sum = c.self.inside.sizes; low = c.self.inside.lo; high = c.self.inside.hi; index_at = c.in_ok-index_at.field-0.at; filter_at = Some c.in_ok-filter_at.field-0.at; blocks = c.count-blocks.result } in
-    let footer = c.deref-3.ensures.value ∙ c.in_ok-footer_body.ensures in
-    omega (arith, ap length bytes, least, inv.bytes, inv.index, inv.len, c.in_ok-index_at.ensures.len, c.bytes-2.ensures.size.at_most, ap length c.bytes-2.ensures.body, c.in_ok-filter_at.ensures.len, ap length footer, length-footer_bytes true said refl)
+pub finish-requires-clause-summary : goal.finish-requires-clause-summary
+finish-requires-clause-summary g c =
+    let inside = c.self.inside in
+    let is = c.self.invariant in
+    let begun : inside.block ≢ [] = λ empty. c.requires.some (sym (ap (λ w. w.block) c.self.view_is) ∙ empty) in
+    record {
+      some = is.some begun;
+      count = omega (arith, is.count, is.most);
+      sum = omega (arith, is.sizes, is.count, is.most);
+      low = is.lo;
+      high = is.hi;
+    }
 
 pub returns-clause-table : goal.returns-clause-table
 returns-clause-table g c = λ entries stands.
-    let bytes : c.deref-2.result.now ≡ index_bytes table_keys c.closed-2.inside.index = c.deref-2.ensures.value ∙ c.in_ok-index_bytes.ensures ∙ ap (index_bytes table_keys) c.as_slice.ensures in
-    let least = least-index_bytes table_keys c.closed-2.inside.index in
-    let inv = c.closed-2.invariant.0 in
-    let said : Footer = record { count = c.self.inside.count; sum = c.self.inside.sizes; low = c.self.inside.lo; high = c.self.inside.hi; index_at = c.in_ok-index_at.field-0.at; filter_at = Some c.in_ok-filter_at.field-0.at; blocks = c.count-blocks.result } in
-    let footer = c.deref-3.ensures.value ∙ c.in_ok-footer_body.ensures in
     let drafted = g.F.Files.drafted in
     let told = g.F.Files.told in
     let inside = c.self.inside in
@@ -63,39 +47,33 @@ returns-clause-table g c = λ entries stands.
     let is = subst (λ w. IsWriting drafted w entries blocks last) (sym c.self.view_is) stands.2 in
     let begun : inside.block ≢ [] = λ none. c.requires.some (sym (ap (λ w. w.block) c.self.view_is) ∙ none) in
     let some : last ≢ [] = λ none. begun (is.block ∙ ap (map pair_of) none) in
-    let closed = c.in_ok-close_block.ensures.blocks blocks last is.closed (c.bytes.ensures.block ∙ ap block_of is.block) (c.deref.ensures.value ∙ is.first some) in
-    let closed' = subst (λ w. HasBlocks drafted w (blocks ++ last ∷ [])) (sym c.closed-2.view_is) closed in
-    let filter = c.in_ok-filter.filter in
-    let frames = c.closed-2.inside.frames in
+    let closed = c.close_block.new.closed in
+    let has : HasBlocks drafted closed (blocks ++ last ∷ []) = c.in_ok-close_block.ensures.blocks blocks last is.closed begun is.block (c.deref.ensures.value ∙ is.first some) in
+    let held = opened inside.closed.index inside.block inside.first_key.items c.self.invariant.begun begun in
+    let first = c.deref.result.now in
+    let handle : BlockHandle (List ℕ) = record { first = first; at = inside.closed.frames.len; len = length (block_of inside.block) + 20 } in
+    let indexed = c.in_ok-indexed.indexed in
     finished drafted told
     (record { id = inside.id; lo = inside.lo; hi = inside.hi; closed = inside.closed; block = inside.block; first = inside.first_key.items; filter = inside.filter; most = inside.most; count = inside.count; sizes = inside.sizes })
-    (record { frames = frames; index = c.closed-2.inside.index }) _ entries blocks last is closed'
+    closed (record { indexed = indexed; filter = c.in_ok-filter.filter }) entries blocks last is has
     (record {
       some = begun;
-      few = inv.bytes;
+      few = omega (
+        arith,
+        held.room,
+        ap (index_length table_keys) (c.in_ok-close_block.ensures.index begun),
+        index_length-push table_keys inside.closed.index handle,
+        length-counted 1 first,
+        ap length c.deref.ensures.value,
+      );
       lo = c.self.invariant.lo;
       hi = c.self.invariant.hi;
       filter_size = c.in_ok-filter.ensures.size;
       filter_words = c.in_ok-filter.ensures.words;
-      index = refl;
-      entries = refl;
-      sizes = refl;
-      from = refl;
-      to = refl;
-      index_at = ap (λ p. p.at) c.in_ok-index_at.ensures.placed;
-      filter_at = ap (λ (n : ℕ). Some n) (ap (λ p. p.at) c.in_ok-filter_at.ensures.placed ∙ c.in_ok-index_at.ensures.len ∙ ap (λ (bs : List ℕ). frames.len + length bs + 20) bytes);
-      blocks = c.count-blocks.ensures;
-      sealed = λ bodies has.
-          let one = subst (λ (bs : List ℕ). HasFrames drafted c.append_frame.new.writer (bodies ++ bs ∷ [])) bytes (c.in_ok-index_at.ensures.frames bodies has) in
-          let two = subst (λ (bs : List ℕ). HasFrames drafted c.append_frame-2.new.writer ((bodies ++ index_bytes table_keys c.closed-2.inside.index ∷ []) ++ bs ∷ []))
-          c.bytes-2.ensures.body (c.in_ok-filter_at.ensures.frames (bodies ++ index_bytes table_keys c.closed-2.inside.index ∷ []) one) in
-          let three = subst (λ (bs : List ℕ). HasFrames drafted c.append_frame-3.new.writer (((bodies ++ index_bytes table_keys c.closed-2.inside.index ∷ []) ++ filter ∷ []) ++ bs ∷ []))
-          footer (c.in_ok-append_frame.ensures.frames ((bodies ++ index_bytes table_keys c.closed-2.inside.index ∷ []) ++ filter ∷ []) two) in
-          (c.in_ok-file.ensures.len ∙ three.len, c.in_ok-file.ensures.frames (((bodies ++ index_bytes table_keys c.closed-2.inside.index ∷ []) ++ filter ∷ []) ++ footer_bytes said ∷ []) three);
+      index = c.in_ok-indexed.ensures.index;
+      footer = c.in_ok-indexed.ensures.footer;
+      sealed = λ bodies frames.
+          subst (λ (filter : List ℕ). (indexed.file.len ≡ length (numbered_frames (file_bodies table_keys true bodies closed.index filter indexed.footer)))
+          × IfSome (told indexed.file.file) (λ bytes. bytes ≡ numbered_frames (file_bodies table_keys true bodies closed.index filter indexed.footer)))
+          c.bytes.ensures.body (c.in_ok-indexed.ensures.len bodies frames, c.in_ok-indexed.ensures.bytes bodies frames);
     })
-
-pub overflow_cast-blocks : goal.overflow_cast-blocks
-overflow_cast-blocks g c =
-    let inv = c.closed-2.invariant.0 in
-    let small : c.count-blocks.result < 2 ^ 32 = omega (arith, least-index_bytes table_keys c.closed-2.inside.index, inv.bytes, inv.index, c.count-blocks.ensures) in
-    record { fits = small }

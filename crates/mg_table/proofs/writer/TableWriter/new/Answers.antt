@@ -10,7 +10,7 @@ returns-clause-entries g c = (
   [],
   [],
   record {
-    closed = record { frames = c.in_ok-frames.ensures.empty; index = cc };
+    closed = record { frames = c.in_ok-new.ensures.frames; index = c.in_ok-new.ensures.index };
     block = cc;
     first = λ some. absurd (some refl);
     filter = HasBitsOf-none c.in_ok-filter.filter c.in_ok-filter.ensures.empty;
