@@ -9,7 +9,7 @@ use Rattle.mg_sealed.specs.declared.reading.SealedFile.{SealedFile}
 use Rattle.mg_sealed.proofs.AnswerLaws.{some_both, some_then}
 use Rattle.mg_indexed.specs.Footer.{footer_size}
 use Rattle.mg_indexed.specs.Forms.{Form}
-use Rattle.mg_indexed.specs.Loading.{IsFooterRead, IsIndexed, IsIndexRead, IsRefused as IsUnloaded}
+use Rattle.mg_indexed.specs.Loading.{IsFooterRead, IsIndexed, IsIndexRead, IsKept as AreKept, IsRefused as IsUnloaded}
 use Rattle.mg_indexed.specs.NumberKeys.{number_keys}
 use Rattle.mg_indexed.specs.declared.footer.Footer.{Footer}
 use Rattle.mg_indexed.specs.declared.handle.BlockHandle.{BlockHandle}
@@ -106,11 +106,12 @@ unloaded form told id file len fault why =
 
 pub apart_refused : {S : Type 0} (form : Form) → form.filtered ≡ false → (told : Option (List ℕ)) (id : FileId) (file : S) (len : ℕ) (filed : Filed S) (fault : Fault)
     → IfSome told (λ bytes. length bytes ≡ len) → IfSome told (λ bytes. IsFooterRead form.filtered id bytes filed.footer × IsIndexRead number_keys id bytes filed.footer filed.index)
-    → (Agrees filed.footer filed.index → ⊥) → fault ≡ Malformed id (len - 65) → IfSome told (λ bytes. IsOutside fault ⊎ IsRefused form id file len bytes fault)
-apart_refused form unfiltered told id file len filed fault long read apart is =
+    → AreKept number_keys form filed.footer filed.index → (Agrees filed.footer filed.index → ⊥) → fault ≡ Malformed id (len - 65)
+    → IfSome told (λ bytes. IsOutside fault ⊎ IsRefused form id file len bytes fault)
+apart_refused form unfiltered told id file len filed fault long read kept apart is =
     some_then told (λ bytes. (length bytes ≡ len) × (IsFooterRead form.filtered id bytes filed.footer × IsIndexRead number_keys id bytes filed.footer filed.index))
     (λ bytes. IsOutside fault ⊎ IsRefused form id file len bytes fault)
     (λ bytes h.
     let ends = subst (λ (b : Bool). IsFooterRead b id bytes filed.footer) unfiltered h.1.0 in
-    inr (inr (h.0, (filed.footer, filed.index, ends, h.1.1, apart, is ∙ ap (λ (n : ℕ). Malformed id (n - 65)) (sym h.0)))))
+    inr (inr (h.0, (filed.footer, filed.index, ends, h.1.1, kept, apart, is ∙ ap (λ (n : ℕ). Malformed id (n - 65)) (sym h.0)))))
     (some_both told (λ bytes. length bytes ≡ len) (λ bytes. IsFooterRead form.filtered id bytes filed.footer × IsIndexRead number_keys id bytes filed.footer filed.index) long read)

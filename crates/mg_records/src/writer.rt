@@ -152,6 +152,7 @@ impl<D: Drop, R: Record> RecordWriter<D, R> {
         ensures represents { (records : List R) → HasRecords R.kind F.drafted self records →
             IfOk result (λ file. Represents R.kind F.told file records) }
         ensures id { IfOk result (λ file. file.file.id ≡ self.id) }
+        ensures small { IfOk result (λ file. file.file.len < 2 ^ 62) }
         ensures outside { IfErr result (λ fault. IsUnwritten fault) }
         ensures cause { HasCause Fault.WriteFault (F.faults port.old) (F.faults port.new) result }
         ensures once { CountsOnce (F.faults port.old) (F.faults port.new) result }

@@ -37,7 +37,7 @@ returns-then-not-agrees-clause-refusals g c =
     (let yes = c.agrees.ensures.1 (subst (λ (f : Footer). Agrees f c.handles.result.now) (sym c.footer.ensures.footer) (subst (λ es. Agrees filed.footer es) (sym c.handles.ensures.handles) same)) in
     absurd (grind (arith, common_steps, yes))) in
     apart_refused g.R.BlockItem.form g.met.R.Record.framed.unfiltered (g.F.Files.told c.args.file) c.args.id c.args.file c.args.len filed c.malformed.result
-    c.in_ok-indexed.ensures.len.1 c.in_ok-indexed.ensures.read apart (c.malformed.ensures ∙ ap (λ (n : ℕ). Malformed c.args.id n) (omega (arith, c.saturating_sub.ensures, c.footer_len.ensures)))
+    c.in_ok-indexed.ensures.len.1 c.in_ok-indexed.ensures.read c.in_ok-indexed.ensures.kept apart (c.malformed.ensures ∙ ap (λ (n : ℕ). Malformed c.args.id n) (omega (arith, c.saturating_sub.ensures, c.footer_len.ensures)))
 
 pub returns-then-not-agrees-clause-kinds : goal.returns-then-not-agrees-clause-kinds
 returns-then-not-agrees-clause-kinds g c = inr (c.saturating_sub.result, inr c.malformed.ensures)
