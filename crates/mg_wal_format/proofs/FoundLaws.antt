@@ -46,7 +46,7 @@ some_same x y same = cc
 -- ---- rising numbers
 
 -- an element of a list, by recursion
-abbrev Among : Found → List Found → Type 0
+abbrev pub Among : {X : Type 0} → X → List X → Type 0
 Among x [] = ⊥
 Among x (y ∷ ys) = (x ≡ y) ⊎ Among x ys
 
@@ -54,12 +54,12 @@ Among x (y ∷ ys) = (x ≡ y) ⊎ Among x ys
 abbrev Covers : List Found → List Found → Type 0
 Covers xs ys = (x : Found) → Among x xs → Among x ys
 
-among : (xs : List Found) (x : Found) → Contains xs x → Among x xs
+pub among : {X : Type 0} (xs : List X) (x : X) → Contains xs x → Among x xs
 among [] x (k, within, is) = absurd (omega (arith, within))
 among (y ∷ ys) x (zero, within, is) = inl (sym is)
 among (y ∷ ys) x (suc k, within, is) = inr (among ys x (k, omega (arith, within), is))
 
-all_among : (P : Found → Type 0) (xs : List Found) (x : Found) → AllByRecursion P xs → Among x xs → P x
+pub all_among : {X : Type 0} (P : X → Type 0) (xs : List X) (x : X) → AllByRecursion P xs → Among x xs → P x
 all_among P [] x all none = absurd none
 all_among P (y ∷ ys) x all (inl same) = subst P (sym same) all.0
 all_among P (y ∷ ys) x all (inr behind) = all_among P ys x all.1 behind

@@ -13,11 +13,11 @@ use Rattle.mg_wal_format.specs.Records.{Counts}
 use Rattle.mg_wal_format.specs.Torn.{EndsAt, HasFront, Plan}
 use Rattle.mg_wal_format.proofs.TornLaws.{InOrder-take}
 
-InOrder-front : (parts : ℕ) (counts : Counts) (number : ℕ) (recs more : List Rec) → InOrder parts counts number (recs ++ more) → InOrder parts counts number recs
+pub InOrder-front : (parts : ℕ) (counts : Counts) (number : ℕ) (recs more : List Rec) → InOrder parts counts number (recs ++ more) → InOrder parts counts number recs
 InOrder-front parts counts number [] more ordered = tt
 InOrder-front parts counts number (rec ∷ recs) more ordered = (ordered.0, ordered.1, ordered.2, InOrder-front parts (one_more counts rec.part) (number + 1) recs more ordered.3)
 
-InOrder-behind : (parts : ℕ) (counts : Counts) (number : ℕ) (recs more : List Rec) → InOrder parts counts number (recs ++ more) → InOrder parts (counts_after counts recs) (number + length recs) more
+pub InOrder-behind : (parts : ℕ) (counts : Counts) (number : ℕ) (recs more : List Rec) → InOrder parts counts number (recs ++ more) → InOrder parts (counts_after counts recs) (number + length recs) more
 InOrder-behind parts counts number [] more ordered = subst (λ (n : ℕ). InOrder parts counts n more) (omega arith) ordered
 InOrder-behind parts counts number (rec ∷ recs) more ordered =
     subst (λ (n : ℕ). InOrder parts (counts_after (one_more counts rec.part) recs) n more) (omega arith) (InOrder-behind parts (one_more counts rec.part) (number + 1) recs more ordered.3)

@@ -59,6 +59,7 @@ fn write_record_frame(
     what: &Change,
     out: &mut Vec<u8>,
 ) -> Result<(), AllocError>
+    requires number { number < 2 ^ 62 }
     requires change { change < 2 ^ 62 }
     requires mark { IfSome (mark_of what.now) (λ mark. mark < 2 ^ 62) }
     ensures ok { OnOk result (out.new.items ≡ out.old.items ++ frame number (record_body part change what.now)) }
@@ -78,6 +79,7 @@ pub fn put_record_frame(
     what: &Change,
     out: &mut Vec<u8>,
 ) -> Result<(), AllocError>
+    requires number { number < 2 ^ 62 }
     requires change { change < 2 ^ 62 }
     requires mark { IfSome (mark_of what.now) (λ mark. mark < 2 ^ 62) }
     ensures ok { OnOk result (out.new.items ≡ out.old.items ++ frame number (record_body part change what.now)) }
