@@ -1,2 +1,15 @@
 pub mod BookLaws
+pub mod CountLaws
+pub mod GatherLaws
+pub mod MomentLaws
+pub mod MoveLaws
+pub mod OpeningReach
+pub mod ReachLaws
+pub mod RemoveLaws
+pub mod SceneLaws
+pub mod StepLaws
+pub mod StoryLaws
+pub mod StrayLaws
 pub mod SyncLaws
+pub mod TimeLaws
+pub mod TrackLaws

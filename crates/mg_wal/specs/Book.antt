@@ -6,6 +6,7 @@ use Rattle.mg_model.specs.declared.calls.Change.{Change}
 use Rattle.mg_types.specs.declared.faults.Fault.{Fault}
 use Rattle.mg_types.specs.declared.faults.Fault.TheVariants.{Worn}
 use Rattle.mg_wal_format.specs.Records.{record_body}
+use Rattle.mg_wal.specs.declared.known.KnownLog.{KnownLog}
 
 -- a change of the list: its partition and what it is
 abbrev pub Entry : Type 0
@@ -43,6 +44,8 @@ pub record Book : Type 0 where
   pub newest : ℕ
   -- the number of the newest log whose head is synced; 0 without one
   pub anchor : ℕ
+  -- the logs that a crash may leave, in the order of their numbers
+  pub logs : List KnownLog
 
 -- the number of the last record that is synced
 abbrev pub synced_of : Book → ℕ

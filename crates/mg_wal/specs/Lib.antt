@@ -1,4 +1,10 @@
 pub mod Book
 pub mod Lists
+pub mod Moves
+pub mod Openings
+pub mod Releases
+pub mod Scenes
 pub mod States
+pub mod Stories
 pub mod Syncs
+pub mod Times

@@ -60,10 +60,14 @@ synced_counts basis list book = counts_after (counts_in basis.low) (take (before
 abbrev pub IsNextOf : Book → Entry → Type 0
 IsNextOf book e = InOrder (parts_in book) (counts_in book.counts) (book.last + 1) (rec_of (counts_in book.counts) (book.last + 1) e ∷ [])
 
+-- no log was found
+abbrev pub IsEmpty : Basis → Type 0
+IsEmpty basis = (basis.reached ≡ 0) × (basis.first ≡ 1) × (basis.opened ≡ []) × ((part : ℕ) → get_or basis.low part 0 ≡ 0)
+
 -- Over every volume: the book is that of this list.
 pub record Books (basis : Basis) (list : List Entry) (book : Book) : Type 0 where
   pub first : 1 ≤ basis.first
-  pub reached : ((basis.reached ≡ 0) × (basis.first ≡ 1) × (basis.opened ≡ [])) ⊎ (basis.reached ≡ next_of basis)
+  pub reached : IsEmpty basis ⊎ (basis.reached ≡ next_of basis)
   pub in_order : InOrder (length basis.low) (counts_in basis.low) basis.first (all_recs basis list)
   pub last : book.last + 1 ≡ basis.first + length (all_recs basis list)
   pub parts : parts_in book ≡ length basis.low

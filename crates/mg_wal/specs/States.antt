@@ -18,6 +18,7 @@ ledger_book ledger =
       writing = ledger.writing;
       newest = ledger.newest;
       anchor = ledger.anchor;
+      logs = ledger.logs.items;
     }
 
 -- the volume of a state

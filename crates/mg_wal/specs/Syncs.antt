@@ -1,8 +1,9 @@
 -- What a sync writes, and what becomes of the book.
-use Rattle.std.specs.Prelude.{◌≡◌, ◌≢◌, ℕ, ◌+◌, ◌*◌, ◌≤◌, ◌^◌, ◌⊎◌, nat_lt, if◌then◌else◌, Bool, true, false, List, [], ◌++◌, length, Option, None, Some}
+use Rattle.std.specs.Prelude.{◌≡◌, ℕ, ◌+◌, ◌*◌, ◌≤◌, ◌^◌, ◌⊎◌, nat_lt, if◌then◌else◌, Bool, true, false, List, [], ◌∷◌, ◌++◌, length, Option, None, Some}
 use Rattle.mg_disk.specs.declared.errors.DiskError.{DiskError}
 use Rattle.mg_disk.specs.declared.errors.DiskError.TheVariants as disk
 use Rattle.mg_disk.specs.Images.{Image, Sets, View}
+use Rattle.mg_disk.specs.Moments.{Begins, EachImage, LeavesOnly}
 use Rattle.mg_frame.specs.Frame.{frame}
 use Rattle.mg_types.specs.declared.faults.Fault.{Fault}
 use Rattle.mg_types.specs.declared.faults.Fault.TheVariants.{NoMemory, WriteFault, Worn}
@@ -10,6 +11,7 @@ use Rattle.mg_types.specs.declared.names.Name.{Name}
 use Rattle.mg_wal_format.specs.declared.head.Head.{Head}
 use Rattle.mg_wal_format.specs.Heads.{head_bytes}
 use Rattle.mg_wal_format.specs.Recovery.{log_name}
+use Rattle.mg_wal.specs.declared.known.KnownLog.{KnownLog}
 use Rattle.mg_wal.specs.Book.{parts_in, synced_of, Book, HasUnsynced}
 
 -- what a call answers where a write gave up so
@@ -27,13 +29,13 @@ pub record Adds (name : Name) (bytes : List ℕ) (old new : Image) : Type 0 wher
   pub was : old name ≡ Some found
   pub longer : Sets name (Some (found ++ bytes)) old new
 
--- what other names stand for stays
-abbrev pub KeepsOthers : Name → Image → Image → Type 0
-KeepsOthers name old new = (other : Name) → other ≢ name → new other ≡ old other
-
 -- each crash leaves of the log what reads give
 abbrev pub IsLasting : Name → View → Type 0
 IsLasting name view = (image : Image) → view.may_leave image → image name ≡ view.contents name
+
+-- first bytes of a name that each crash left before, a crash at any moment since leaves too
+abbrev pub KeepsSure : View → View → Type 0
+KeepsSure old new = (name : Name) (kept : List ℕ) → EachImage old (Begins name kept) → LeavesOnly old new (Begins name kept)
 
 -- a log of this length is appended to; 2^24 is 16 MiB
 abbrev pub has_room_in : Option ℕ → Bool
@@ -61,9 +63,30 @@ len_for book = if goes_on book then len_in book.writing else 31 + 8 * parts_in b
 abbrev pub synced_in : ℕ → ℕ → Book → Book
 synced_in number len book = record book { reach = book.last + 1; synced = book.counts; waiting = []; writing = Some len; newest = number; anchor = number }
 
+-- the head of a log that begins with the first record that is not synced
+abbrev pub head_for : Book → Head
+head_for book = record { first = synced_of book + 1; before = book.synced }
+
+-- the next log, as it is to be begun
+abbrev pub next_log : Book → KnownLog
+next_log book = record { number = book.newest + 1; head = head_for book }
+
+-- the book once the next log was tried
+abbrev pub begun_in : Book → Book
+begun_in book = record book { newest = book.newest + 1; logs = book.logs ++ next_log book ∷ [] }
+
+-- the book once a log was written to: by whether it goes on
+abbrev pub written_by : Bool → Book → Book
+written_by true book = book
+written_by false book = begun_in book
+
+-- the book once the next sync has written to a log
+abbrev pub written_in : Book → Book
+written_in book = written_by (goes_on book) book
+
 -- the book after a sync
 abbrev pub after_sync : Book → Book
-after_sync book = if nat_lt (synced_of book) book.last then synced_in (number_for book) (len_for book + length book.waiting) book else book
+after_sync book = if nat_lt (synced_of book) book.last then synced_in (number_for book) (len_for book + length book.waiting) (written_in book) else book
 
 -- no log of another number can be begun
 abbrev pub IsSpent : Book → Type 0
@@ -75,7 +98,7 @@ untried book = record book { writing = None }
 
 -- and after it was tried
 abbrev pub tried : Book → Book
-tried book = record book { writing = None; newest = number_for book }
+tried book = untried (written_in book)
 
 -- why the writing of all that is unsynced failed, and what became of the book
 abbrev pub IsFailedWrite : Book → Book → Fault → Type 0
@@ -87,10 +110,6 @@ IsFailedWrite old new fault =
 -- why a sync failed, and what became of the book
 abbrev pub IsFailedSync : Book → Book → Fault → Type 0
 IsFailedSync old new fault = HasUnsynced old × IsFailedWrite old new fault
-
--- the head of a log that begins with the first record that is not synced
-abbrev pub head_for : Book → Head
-head_for book = record { first = synced_of book + 1; before = book.synced }
 
 -- what a new log has: its head, with its number, and behind it all that is unsynced
 abbrev pub begun_bytes : Book → List ℕ

@@ -63,6 +63,7 @@ impl Frames {
         change: u64,
         what: &Change,
     ) -> Result<(), AllocError>
+        requires number { number < 2 ^ 62 }
         requires change { change < 2 ^ 62 }
         requires mark { IfSome (mark_of what.now) (λ mark. mark < 2 ^ 62) }
         ensures ok { OnOk result (self.new ≡ record self.old { staged = frame number (record_body part change what.now) }) }

@@ -1,10 +1,12 @@
 //! What a state keeps beside its volume.
 
-ghost use Rattle.std.specs.Prelude.{◌≡◌, ◌+◌, ◌<◌, ◌≤◌, ◌^◌, length};
+ghost use Rattle.std.specs.Prelude.{◌≡◌, ◌+◌, ◌<◌, ◌≤◌, ◌^◌, IsTrue, false, get_or, length};
 ghost use Rattle.std.specs.Option.{ForSome};
 ghost use Rattle.mg_wal.specs.Book.{AreKept, IsReady};
+ghost use Rattle.mg_wal.specs.Releases.{Covers};
 
 use crate::frames::Frames;
+use crate::known::KnownLog;
 use mg_frame::put_frame;
 use mg_items::Items;
 use mg_model::Change;
@@ -34,13 +36,17 @@ pub(crate) struct Ledger {
     pub(crate) newest: u64,
     // the number of the newest log whose head is synced
     pub(crate) anchor: u64,
+    // the logs that a crash may leave, in the order of their numbers
+    pub(crate) logs: Vec<KnownLog>,
     ghost few: { length counts.items < 2 ^ 16 },
     ghost same_parts: { length synced.items ≡ length counts.items },
+    ghost released_parts: { length released.items ≡ length counts.items },
     ghost counts_are_kept: { AreKept counts.items },
     ghost synced_are_kept: { AreKept synced.items },
     ghost last_is_kept: { last < 2 ^ 62 },
     ghost order: { reach ≤ last + 1 },
     ghost newest_is_kept: { ForSome writing (λ _. newest < 2 ^ 62) },
+    ghost anchor_is_tried: { anchor ≤ newest },
     ghost ready: { ForSome staged (λ part. IsReady last counts.items part) },
 }
 
@@ -48,11 +54,13 @@ pub(crate) struct Ledger {
 const LAST_NUMBER: u64 = NUMBER_LIMIT - 1;
 
 impl Ledger {
-    ghost use Rattle.std.specs.Prelude.{◌⊎◌, nat_lt, IfOk, Some, IfSome, IsSome, IfErr, OnOk, OnErr};
+    ghost use Rattle.std.specs.Prelude.{◌⊎◌, nat_lt, false, IsTrue, IfOk, None, Some, IfSome, IsSome, IfErr, OnOk, OnErr};
     ghost use Rattle.mg_types.specs.declared.faults.Fault.TheVariants.{NoMemory, Worn};
+    ghost use Rattle.mg_wal_format.specs.Heads.{IsSoundHead};
     ghost use Rattle.mg_wal_format.specs.Records.{mark_of};
     ghost use Rattle.mg_wal.specs.Book.{after_push, after_reserve, parts_in, staged_of, synced_of, Entry, HasRoom, HasUnsynced, IsWorn};
-    ghost use Rattle.mg_wal.specs.Syncs.{begun_bytes, synced_in};
+    ghost use Rattle.mg_wal.specs.Syncs.{begun_bytes, begun_in, head_for, synced_in};
+    ghost use Rattle.mg_wal.specs.Releases.{after_release, behind_first, FirstMayGo};
     ghost use Rattle.mg_wal.specs.Lists.{IsNextOf};
     ghost use Rattle.mg_wal.specs.States.{ledger_book};
 
@@ -113,22 +121,79 @@ impl Ledger {
         Ok(self.newest + 1)
     }
 
-    /// The bytes of the next log: its head, with its number, and behind it the frames that wait.
-    pub(crate) fn begun(&self, alloc: Global, number: u64) -> Result<Vec<u8>, AllocError>
-        requires number { number ≡ (ledger_book self.now).newest + 1 }
-        requires unsynced { HasUnsynced (ledger_book self.now) }
-        ensures bytes { IfOk result (λ bytes. bytes.items ≡ begun_bytes (ledger_book self.now)) }
+    /// The head of the next log.
+    pub(crate) fn next_head(&self, alloc: Global) -> Result<Head, AllocError>
+        requires { HasUnsynced (ledger_book self.now) }
+        ensures head { IfOk result (λ head. head ≡ head_for (ledger_book self.now)) }
+        ensures sound { IsSoundHead (head_for (ledger_book self.now)) }
     {
-        let head = Head {
+        Ok(Head {
             first: self.reach.saturating_sub(1) + 1,
             before: Items::from_slice(alloc, &self.synced)?,
-        };
+        })
+    }
+
+    /// The next log was tried, with this head. Without memory it is not to be tried.
+    pub(crate) fn note_tried(&mut self, number: u64, head: Head) -> Result<(), AllocError>
+        requires number { number ≡ (ledger_book self.old).newest + 1 }
+        requires head { head ≡ head_for (ledger_book self.old) }
+        requires none { (ledger_book self.old).writing ≡ None }
+        ensures ok { OnOk result (ledger_book self.new ≡ begun_in (ledger_book self.old)) }
+        ensures err { OnErr result (ledger_book self.new ≡ ledger_book self.old) }
+    {
+        self.logs.push(KnownLog { number, head })?;
+        self.newest = number;
+        Ok(())
+    }
+
+    /// The bytes of the next log: its head, with its number, and behind it the frames that wait.
+    pub(crate) fn begun(
+        &self,
+        alloc: Global,
+        number: u64,
+        head: &Head,
+    ) -> Result<Vec<u8>, AllocError>
+        requires number { number ≡ (ledger_book self.now).newest + 1 }
+        requires head { head.now ≡ head_for (ledger_book self.now) }
+        requires sound { IsSoundHead head.now }
+        ensures bytes { IfOk result (λ bytes. bytes.items ≡ begun_bytes (ledger_book self.now)) }
+    {
         let mut body = Vec::new(alloc);
-        put_head(&head, &mut body)?;
+        put_head(head, &mut body)?;
         let mut bytes = Vec::new(alloc);
         put_frame(number, &body, &mut bytes)?;
         bytes.extend_from_slice(self.frames.waiting())?;
         Ok(bytes)
+    }
+
+    /// The partition needs its first `change` changes no more.
+    pub(crate) fn release(&mut self, part: u16, change: u64)
+        requires { part < parts_in (ledger_book self.old) }
+        ensures { ledger_book self.new ≡ after_release part change (ledger_book self.old) }
+    {
+        let part = usize::from(part);
+        self.released[part] = self.released[part].max(change);
+    }
+
+    /// Whether the oldest log may go.
+    pub(crate) fn first_may_go(&self) -> bool
+        ensures yes { IsTrue result → FirstMayGo (ledger_book self.now) (ledger_book self.now).logs }
+        ensures no { result ≡ false → FirstMayGo (ledger_book self.now) (ledger_book self.now).logs → ⊥ }
+    {
+        if self.logs.len() < 2 {
+            return false;
+        }
+        self.logs[0].number < self.anchor
+            && self.logs[1].number <= self.anchor
+            && covers(&self.released, self.logs[1].head.before.as_slice())
+    }
+
+    /// The oldest log is gone.
+    pub(crate) fn forget_first(&mut self)
+        requires { FirstMayGo (ledger_book self.old) (ledger_book self.old).logs }
+        ensures { ledger_book self.new ≡ behind_first (ledger_book self.old) }
+    {
+        self.logs.remove(0);
     }
 
     /// All is synced, in the log of this number, which has this length now.
@@ -143,4 +208,24 @@ impl Ledger {
         self.writing = Some(len);
         self.anchor = number;
     }
+}
+
+/// Whether each of these counts is covered by what is released.
+fn covers(released: &[u64], before: &[u64]) -> bool
+    ensures yes { IsTrue result → Covers released.now before.now }
+    ensures no { result ≡ false → Covers released.now before.now → ⊥ }
+{
+    for (part, count) in before.iter().enumerate() {
+        if count_at(released, part) < *count {
+            return false;
+        }
+    }
+    true
+}
+
+/// The count at this place; 0 behind the last.
+fn count_at(counts: &[u64], part: usize) -> u64
+    ensures { result ≡ get_or counts.now part 0 }
+{
+    if part < counts.len() { counts[part] } else { 0 }
 }

@@ -6,11 +6,14 @@
 
 mod devices;
 mod frames;
+mod known;
+pub mod laws;
 mod ledger;
 mod receipt;
 mod state;
 #[cfg(test)]
 mod tests;
 
+pub use known::KnownLog;
 pub use receipt::Receipt;
 pub use state::WalState;

@@ -4,7 +4,7 @@ ghost use Rattle.std.specs.Prelude.{◌≡◌, ℕ, ◌<◌, None, IsTrue, is_so
 ghost use Rattle.std.specs.Option.{ForSome};
 ghost use Rattle.mg_wal_format.specs.Recovery.{log_name};
 
-use crate::devices::{append_lasting, begin_log};
+use crate::devices::{append_lasting, begin_log, remove_log};
 use crate::ledger::Ledger;
 use crate::receipt::Receipt;
 use mg_disk::Volume;
@@ -32,14 +32,17 @@ pub struct WalState<V: Volume> {
 }
 
 impl<V: Volume> WalState<V> {
-    ghost use Rattle.std.specs.Prelude.{◌+◌, ◌*◌, ◌^◌, ◌⊎◌, length, Some, IfSome, IsSome, IfOk, IfErr, OnOk, OnErr, IsOk};
-    ghost use Rattle.mg_faults.specs.Causes.{HasCause};
+    ghost use Rattle.std.specs.Prelude.{◌+◌, ◌*◌, ◌≤◌, ◌^◌, ◌⊎◌, length, Some, IfSome, IsSome, IfOk, IfErr, OnOk, OnErr, IsOk};
+    ghost use Rattle.mg_faults.specs.Causes.{CountsOnce, HasCause};
+    ghost use Rattle.mg_disk.specs.Images.{KeepsOthers};
     ghost use Rattle.mg_types.specs.declared.faults.Fault.TheVariants.{NoMemory};
     ghost use Rattle.mg_wal_format.specs.Records.{mark_of};
     ghost use Rattle.mg_wal.specs.Book.{after_push, after_reserve, changes_of, parts_in, staged_of, Entry, HasRoom, HasUnsynced, IsWorn};
     ghost use Rattle.mg_wal.specs.Lists.{IsNextOf, KeepsBooks, KeepsBooksWith};
+    ghost use Rattle.mg_wal.specs.Releases.{after_release, behind_first, FirstMayGo, IsCut, OnlyLogsGo};
     ghost use Rattle.mg_wal.specs.States.{book_of, volume_of};
-    ghost use Rattle.mg_wal.specs.Syncs.{after_sync, len_for, number_for, synced_in, Adds, BeginsLog, IsFailedSync, IsFailedWrite, IsLasting, IsUnwritten, KeepsOthers, Writes};
+    ghost use Rattle.mg_wal.specs.Stories.{ExtendKeeps, KeepsReach, KeepsReachWith};
+    ghost use Rattle.mg_wal.specs.Syncs.{after_sync, begun_in, len_for, number_for, synced_in, written_in, Adds, BeginsLog, IsFailedSync, IsFailedWrite, IsLasting, IsUnwritten, KeepsSure, Writes};
 
     /// The number of the last record of the list; 0 where it has none.
     pub fn last(&self) -> u64
@@ -61,6 +64,7 @@ impl<V: Volume> WalState<V> {
         ensures same { OnErr result (book_of self.new ≡ book_of self.old) }
         ensures volume { volume_of self.new ≡ volume_of self.old }
         ensures keeps { KeepsBooks (book_of self.old) (book_of self.new) }
+        ensures reaches { IsTrue V.tells → KeepsReach (book_of self.old) (book_of self.new) (V.view (volume_of self.old)) (V.view (volume_of self.new)) }
     {
         self.ledger.reserve(part, what)
     }
@@ -75,6 +79,8 @@ impl<V: Volume> WalState<V> {
         ensures volume { volume_of self.new ≡ volume_of self.old }
         ensures keeps { (e : Entry) → (book_of self.old).staged ≡ Some (staged_of (book_of self.old) e)
             → IsNextOf (book_of self.old) e → KeepsBooksWith e (book_of self.old) (book_of self.new) }
+        ensures reaches { IsTrue V.tells → (e : Entry) → (book_of self.old).staged ≡ Some (staged_of (book_of self.old) e) → IsNextOf (book_of self.old) e
+            → KeepsReachWith e (book_of self.old) (book_of self.new) (V.view (volume_of self.old)) (V.view (volume_of self.new)) }
     {
         self.ledger.push()
     }
@@ -82,7 +88,7 @@ impl<V: Volume> WalState<V> {
     /// All records that were pushed and are not synced are put behind the newest log, or into a new one, in one append, and
     /// made lasting. The receipt is of this partition. A log that was found, that a call failed on or that has 16 MiB or more
     /// is not appended to. Touches no device where nothing is unsynced. After an error nothing of the list is lost: the next
-    /// call repeats what is unsynced.
+    /// call repeats what is unsynced. What each crash left before of a log, a crash at any moment of the call leaves too.
     pub fn sync(&mut self, alloc: Global, part: u16) -> Result<Receipt, Fault>
         requires { part < parts_in (book_of self.old) }
         ensures receipt { IfOk result (λ receipt. (receipt.through ≡ (book_of self.old).last) × (receipt.part ≡ part)
@@ -96,10 +102,13 @@ impl<V: Volume> WalState<V> {
             → IsLasting (log_name (number_for (book_of self.old))) (V.view (volume_of self.new))) }
         ensures elsewhere { IsTrue V.tells → KeepsOthers (log_name (number_for (book_of self.old)))
             (V.view (volume_of self.old)).contents (V.view (volume_of self.new)).contents }
+        ensures reaches { IsTrue V.tells → KeepsReach (book_of self.old) (book_of self.new) (V.view (volume_of self.old)) (V.view (volume_of self.new)) }
+        ensures sure { IsTrue V.tells → KeepsSure (V.view (volume_of self.old)) (V.view (volume_of self.new)) }
         ensures parts { parts_in (book_of self.new) ≡ parts_in (book_of self.old) }
         ensures err { IfErr result (λ fault. IsFailedSync (book_of self.old) (book_of self.new) fault) }
         ensures keeps { KeepsBooks (book_of self.old) (book_of self.new) }
         ensures cause { HasCause Fault.WriteFault (V.faults (volume_of self.old)) (V.faults (volume_of self.new)) result }
+        ensures once { CountsOnce (V.faults (volume_of self.old)) (V.faults (volume_of self.new)) result }
     {
         if self.ledger.has_unsynced() {
             self.write(alloc)?;
@@ -115,14 +124,17 @@ impl<V: Volume> WalState<V> {
     fn write(&mut self, alloc: Global) -> Result<(), Fault>
         requires { HasUnsynced (book_of self.old) }
         ensures book { OnOk result (book_of self.new ≡ synced_in (number_for (book_of self.old))
-            (len_for (book_of self.old) + length (book_of self.old).waiting) (book_of self.old)) }
+            (len_for (book_of self.old) + length (book_of self.old).waiting) (written_in (book_of self.old))) }
         ensures room { OnOk result (number_for (book_of self.old) < 2 ^ 62) }
         ensures written { IsTrue V.tells → OnOk result (Writes (book_of self.old) (V.view (volume_of self.old)).contents (V.view (volume_of self.new)).contents) }
         ensures lasting { IsTrue V.tells → OnOk result (IsLasting (log_name (number_for (book_of self.old))) (V.view (volume_of self.new))) }
         ensures elsewhere { IsTrue V.tells → KeepsOthers (log_name (number_for (book_of self.old)))
             (V.view (volume_of self.old)).contents (V.view (volume_of self.new)).contents }
+        ensures reaches { IsTrue V.tells → KeepsReach (book_of self.old) (book_of self.new) (V.view (volume_of self.old)) (V.view (volume_of self.new)) }
+        ensures sure { IsTrue V.tells → KeepsSure (V.view (volume_of self.old)) (V.view (volume_of self.new)) }
         ensures err { IfErr result (λ fault. IsFailedWrite (book_of self.old) (book_of self.new) fault) }
         ensures cause { HasCause Fault.WriteFault (V.faults (volume_of self.old)) (V.faults (volume_of self.new)) result }
+        ensures once { CountsOnce (V.faults (volume_of self.old)) (V.faults (volume_of self.new)) result }
     {
         let len = self.ledger.writing.take();
         match (self.log.take(), len) {
@@ -144,9 +156,12 @@ impl<V: Volume> WalState<V> {
         ensures lasting { IsTrue V.tells → OnOk result (IsLasting (log_name (book_of self.old).newest) (V.view (volume_of self.new))) }
         ensures elsewhere { IsTrue V.tells → KeepsOthers (log_name (book_of self.old).newest)
             (V.view (volume_of self.old)).contents (V.view (volume_of self.new)).contents }
+        ensures reaches { IsTrue V.tells → ExtendKeeps len (book_of self.old) (book_of self.new) (V.view (volume_of self.old)) (V.view (volume_of self.new)) }
+        ensures sure { IsTrue V.tells → KeepsSure (V.view (volume_of self.old)) (V.view (volume_of self.new)) }
         ensures same { OnErr result (book_of self.new ≡ book_of self.old) }
         ensures outside { IfErr result (λ fault. IsUnwritten fault) }
         ensures cause { HasCause Fault.WriteFault (V.faults (volume_of self.old)) (V.faults (volume_of self.new)) result }
+        ensures once { CountsOnce (V.faults (volume_of self.old)) (V.faults (volume_of self.new)) result }
     {
         let ledger = &self.ledger;
         let waiting = ledger.frames.waiting();
@@ -163,21 +178,78 @@ impl<V: Volume> WalState<V> {
         requires none { (book_of self.old).writing ≡ None }
         requires unsynced { HasUnsynced (book_of self.old) }
         ensures book { OnOk result (book_of self.new ≡ synced_in ((book_of self.old).newest + 1)
-            (31 + 8 * parts_in (book_of self.old) + length (book_of self.old).waiting) (book_of self.old)) }
+            (31 + 8 * parts_in (book_of self.old) + length (book_of self.old).waiting) (begun_in (book_of self.old))) }
         ensures room { OnOk result ((book_of self.old).newest + 1 < 2 ^ 62) }
         ensures written { IsTrue V.tells → OnOk result (BeginsLog (book_of self.old) (V.view (volume_of self.old)).contents (V.view (volume_of self.new)).contents) }
         ensures lasting { IsTrue V.tells → OnOk result (IsLasting (log_name ((book_of self.old).newest + 1)) (V.view (volume_of self.new))) }
         ensures elsewhere { IsTrue V.tells → KeepsOthers (log_name ((book_of self.old).newest + 1))
             (V.view (volume_of self.old)).contents (V.view (volume_of self.new)).contents }
+        ensures reaches { IsTrue V.tells → KeepsReach (book_of self.old) (book_of self.new) (V.view (volume_of self.old)) (V.view (volume_of self.new)) }
+        ensures sure { IsTrue V.tells → KeepsSure (V.view (volume_of self.old)) (V.view (volume_of self.new)) }
         ensures err { IfErr result (λ fault. IsFailedWrite (book_of self.old) (book_of self.new) fault) }
         ensures cause { HasCause Fault.WriteFault (V.faults (volume_of self.old)) (V.faults (volume_of self.new)) result }
+        ensures once { CountsOnce (V.faults (volume_of self.old)) (V.faults (volume_of self.new)) result }
     {
         let number = self.ledger.next_log()?;
-        let bytes = self.ledger.begun(alloc, number)?;
-        self.ledger.newest = number;
+        let head = self.ledger.next_head(alloc)?;
+        let bytes = self.ledger.begun(alloc, number, &head)?;
+        self.ledger.note_tried(number, head)?;
         let log = begin_log(alloc, &mut self.vol, number, &bytes)?;
         self.ledger.note_synced(number, bytes.len() as u64);
         self.log = Some(log);
+        Ok(())
+    }
+
+    /// The partition needs its first `change` changes no more. The oldest logs go, one after the other, as long as the head that
+    /// follows counts released changes alone and that log or a later one has a sure head. After an error they may go at the next
+    /// release of any partition; what is released stays so.
+    pub fn release(&mut self, alloc: Global, part: u16, change: u64) -> Result<(), Fault>
+        requires part { part < parts_in (book_of self.old) }
+        requires change { change ≤ changes_of (book_of self.old) part }
+        ensures cut { IsCut (after_release part change (book_of self.old)) (book_of self.new) }
+        ensures least { OnOk result (FirstMayGo (book_of self.new) (book_of self.new).logs → ⊥) }
+        ensures parts { parts_in (book_of self.new) ≡ parts_in (book_of self.old) }
+        ensures err { IfErr result (λ fault. IsUnwritten fault) }
+        ensures only { IsTrue V.tells → OnlyLogsGo (book_of self.old).anchor (V.view (volume_of self.old)).contents (V.view (volume_of self.new)).contents }
+        ensures keeps { KeepsBooks (book_of self.old) (book_of self.new) }
+        ensures reaches { IsTrue V.tells → KeepsReach (book_of self.old) (book_of self.new) (V.view (volume_of self.old)) (V.view (volume_of self.new)) }
+        ensures cause { HasCause Fault.WriteFault (V.faults (volume_of self.old)) (V.faults (volume_of self.new)) result }
+        ensures once { CountsOnce (V.faults (volume_of self.old)) (V.faults (volume_of self.new)) result }
+    {
+        self.ledger.release(part, change);
+        self.remove_released(alloc)
+    }
+
+    /// Removes the oldest logs as long as they may go.
+    fn remove_released(&mut self, alloc: Global) -> Result<(), Fault>
+        ensures cut { IsCut (book_of self.old) (book_of self.new) }
+        ensures least { OnOk result (FirstMayGo (book_of self.new) (book_of self.new).logs → ⊥) }
+        ensures err { IfErr result (λ fault. IsUnwritten fault) }
+        ensures only { IsTrue V.tells → OnlyLogsGo (book_of self.old).anchor (V.view (volume_of self.old)).contents (V.view (volume_of self.new)).contents }
+        ensures reaches { IsTrue V.tells → KeepsReach (book_of self.old) (book_of self.new) (V.view (volume_of self.old)) (V.view (volume_of self.new)) }
+        ensures cause { HasCause Fault.WriteFault (V.faults (volume_of self.old)) (V.faults (volume_of self.new)) result }
+        ensures once { CountsOnce (V.faults (volume_of self.old)) (V.faults (volume_of self.new)) result }
+    {
+        while self.ledger.first_may_go() {
+            self.remove_first(alloc)?;
+        }
+        Ok(())
+    }
+
+    /// Removes the oldest log.
+    fn remove_first(&mut self, alloc: Global) -> Result<(), Fault>
+        requires { FirstMayGo (book_of self.old) (book_of self.old).logs }
+        ensures book { OnOk result (book_of self.new ≡ behind_first (book_of self.old)) }
+        ensures same { OnErr result (book_of self.new ≡ book_of self.old) }
+        ensures err { IfErr result (λ fault. IsUnwritten fault) }
+        ensures only { IsTrue V.tells → OnlyLogsGo (book_of self.old).anchor (V.view (volume_of self.old)).contents (V.view (volume_of self.new)).contents }
+        ensures reaches { IsTrue V.tells → KeepsReach (book_of self.old) (book_of self.new) (V.view (volume_of self.old)) (V.view (volume_of self.new)) }
+        ensures cause { HasCause Fault.WriteFault (V.faults (volume_of self.old)) (V.faults (volume_of self.new)) result }
+        ensures once { CountsOnce (V.faults (volume_of self.old)) (V.faults (volume_of self.new)) result }
+    {
+        let number = self.ledger.logs[0].number;
+        remove_log(alloc, &mut self.vol, number)?;
+        self.ledger.forget_first();
         Ok(())
     }
 

@@ -7,6 +7,7 @@ ghost use Rattle.mg_wal.specs.States.{book_of};
 
 use crate::frames::Frames;
 use crate::ledger::Ledger;
+use crate::receipt::Receipt;
 use crate::state::WalState;
 use mg_disk::{Kind, Name, Volume};
 use mg_frame::put_frame;
@@ -58,6 +59,7 @@ fn state_over<V: Volume>(
             writing: None,
             newest: 0,
             anchor: 0,
+            logs: Vec::new(alloc),
         },
         log: None,
     })
@@ -225,5 +227,152 @@ fn a_failed_log_is_not_written_again(rt: HostRuntime) -> Result<(), Fail> {
     let mut vol = state.into_volume();
     let want = frames(alloc, &[(2, HEAD), (1, MARK), (2, CLEAR)])?;
     assert!(rt; has_log(alloc, &mut vol, 2, &want)?);
+    Ok(())
+}
+
+/// The head of a log that begins with record 2, behind one change of the first of three partitions.
+const NEXT_HEAD: &[u8] = b"\x01\0\0\0\0\0\0\0\x02\0\x03\
+    \0\0\0\0\0\0\0\x01\0\0\0\0\0\0\0\0\0\0\0\0\0\0\0\0";
+
+/// What the syncs of two records answer where one call of the volume fails, each right after its record, and the volume once a
+/// third sync has answered that both records are synced.
+fn synced_behind(
+    alloc: Global,
+    failing: u64,
+) -> Result<(Result<Receipt, Fault>, Result<Receipt, Fault>, MemVolume), Fail> {
+    let mut state = state_of_failing(alloc, failing)?;
+    stage(&mut state, 0, &Change::Mark)?;
+    state.push();
+    let first = state.sync(alloc, 0);
+    stage(&mut state, 1, &Change::Clear)?;
+    state.push();
+    let second = state.sync(alloc, 1);
+    let third = state.sync(alloc, 1)?;
+    if third != BOTH {
+        return Err(Fail::from("another receipt"));
+    }
+    Ok((first, second, state.into_volume()))
+}
+
+/// That the first record, a change of partition 0, is synced.
+const ONE: Receipt = Receipt {
+    through: 1,
+    part: 0,
+    change: 1,
+};
+
+/// That both records are synced, of which the second is a change of partition 1.
+const BOTH: Receipt = Receipt {
+    through: 2,
+    part: 1,
+    change: 1,
+};
+
+#[test]
+fn after_each_failed_call_a_log_is_begun(rt: HostRuntime) -> Result<(), Fail> {
+    let alloc = rt.alloc();
+    let failed = Err(Fault::WriteFault);
+    let all = [(2, HEAD), (1, MARK), (2, CLEAR)].as_slice();
+    let rest = [(2, NEXT_HEAD), (2, CLEAR)].as_slice();
+    // a log is made, appended to and synced, and then appended to and synced once more
+    let cases = [
+        (1, failed, Ok(BOTH), all),
+        (2, failed, Ok(BOTH), all),
+        (3, failed, Ok(BOTH), all),
+        (4, Ok(ONE), failed, rest),
+        (5, Ok(ONE), failed, rest),
+    ];
+    for (failing, first, second, log) in &cases {
+        let (one, two, mut vol) = synced_behind(alloc, *failing)?;
+        assert!(rt; one == *first && two == *second);
+        assert!(rt; vol.faults().get() == 1);
+        let want = frames(alloc, log)?;
+        assert!(rt; has_log(alloc, &mut vol, 2, &want)?);
+    }
+    Ok(())
+}
+
+/// A state of two logs: the first has a change of partition 0, the second begins behind it with one of partition 1. The volume's
+/// calls were three for the first log, an append that failed, and three for the second log.
+fn state_of_two_logs(alloc: Global, failing: Vec<u64>) -> Result<WalState<MemVolume>, Fail>
+    ensures parts { IfOk result (λ state. parts_in (book_of state) ≡ 3) }
+{
+    let vol = MemVolume::new(alloc, failing);
+    let mut state = state_over(alloc, vol, 0, [0, 0, 0])?;
+    stage(&mut state, 0, &Change::Mark)?;
+    state.push();
+    state.sync(alloc, 0)?;
+    stage(&mut state, 1, &Change::Clear)?;
+    state.push();
+    if state.sync(alloc, 1).is_ok() {
+        return Err(Fail::from("no call failed"));
+    }
+    state.sync(alloc, 1)?;
+    Ok(state)
+}
+
+/// Releases the first changes of a partition, of which it has so many.
+fn release(
+    alloc: Global,
+    state: &mut WalState<MemVolume>,
+    part: u16,
+    change: u64,
+) -> Result<(), Fault>
+    requires part { part < parts_in (book_of state.old) }
+    ensures parts { parts_in (book_of state.new) ≡ parts_in (book_of state.old) }
+{
+    if state.ledger.counts[usize::from(part)] < change {
+        return Err(Fault::Worn { kept: change });
+    }
+    state.release(alloc, part, change)
+}
+
+/// Whether a volume has these of the first three logs.
+fn has_logs(alloc: Global, vol: &mut MemVolume, logs: [bool; 3]) -> Result<bool, Fail> {
+    let names = vol.names(alloc)?;
+    let mut number = 0u64;
+    for there in &logs {
+        number = number.wrapping_add(1);
+        let name = Name {
+            kind: Kind::Wal,
+            number,
+        };
+        if names.contains(&name) != *there {
+            return Ok(false);
+        }
+    }
+    Ok(true)
+}
+
+#[test]
+fn a_log_goes_once_all_before_the_next_is_released(rt: HostRuntime) -> Result<(), Fail> {
+    let alloc = rt.alloc();
+    let both = [true, true, false];
+    let cases = [
+        (0u16, 0u64, both),
+        (1, 1, both),
+        (0, 1, [false, true, false]),
+    ];
+    for (part, change, logs) in &cases {
+        let mut state = state_of_two_logs(alloc, vec![in alloc; 4u64]?)?;
+        if *part < 3 {
+            release(alloc, &mut state, *part, *change)?;
+        }
+        let mut vol = state.into_volume();
+        assert!(rt; has_logs(alloc, &mut vol, *logs)?);
+    }
+    Ok(())
+}
+
+#[test]
+fn a_removal_that_failed_is_tried_at_the_next_release(rt: HostRuntime) -> Result<(), Fail> {
+    let alloc = rt.alloc();
+    let failing = Vec::from_slice(alloc, &[4u64, 8])?;
+    let mut state = state_of_two_logs(alloc, failing)?;
+    assert!(rt; release(alloc, &mut state, 0, 1) == Err(Fault::WriteFault));
+    release(alloc, &mut state, 2, 0)?;
+    let mut vol = state.into_volume();
+    assert!(rt; vol.faults().get() == 2);
+    assert!(rt; has_logs(alloc, &mut vol, [false, true, false])?);
     Ok(())
 }
