@@ -30,6 +30,7 @@ pub fn end_program<K: Sink>(alloc: Global, ran: &Ran, error: &mut K) -> Ending
     ensures said { MatchOption ran.now.fault ((error.new ≡ error.old) × (result.said ≡ Ok tt))
         (λ fault. MatchResult result.said (λ _. Appends (K.written error.old) (K.written error.new) (complaint fault))
         (λ cause. StopsWriting (K.written error.old) (K.written error.new) (K.faults error.old) (K.faults error.new) (complaint fault) cause)) }
+    ensures good { OnOk result.said (K.faults error.new ≡ K.faults error.old) }
 {
     let said = match &ran.fault {
         Some(fault) => say(alloc, fault, error),
@@ -42,8 +43,9 @@ pub fn end_program<K: Sink>(alloc: Global, ran: &Ran, error: &mut K) -> Ending
 }
 
 fn say<K: Sink>(alloc: Global, fault: &Fault, error: &mut K) -> Result<(), Fault>
-    ensures { MatchResult result (λ _. Appends (K.written error.old) (K.written error.new) (complaint fault.now))
+    ensures said { MatchResult result (λ _. Appends (K.written error.old) (K.written error.new) (complaint fault.now))
         (λ cause. StopsWriting (K.written error.old) (K.written error.new) (K.faults error.old) (K.faults error.new) (complaint fault.now) cause) }
+    ensures good { OnOk result (K.faults error.new ≡ K.faults error.old) }
 {
     let mut text = Vec::new(alloc);
     match put_complaint(fault, &mut text) {
