@@ -1,4 +1,5 @@
 pub mod BigEndianLaws
 pub mod FrameLaws
 pub mod FramesLaws
+pub mod FrontLaws
 pub mod SplitLaws

@@ -1,4 +1,4 @@
-use Rattle.std.proofs.Common.{◌≡◌, ap, ◌∙◌, ◌++◌, append_assoc}
+use Rattle.std.proofs.Common.{ap, ◌∙◌, ◌++◌, append_assoc}
 use Rattle.std.proofs.lemmas.Slice.{pushed}
 use Rattle.mg_frame.specs.BigEndian.{big_endian}
 use Rattle.mg_frame.proofs.frame.begin_frame.Goals as goal

@@ -1,4 +1,4 @@
-use Rattle.std.proofs.Common.{◌≡◌, ap, ◌∙◌, drop}
+use Rattle.std.proofs.Common.{ap, ◌∙◌, drop}
 use Rattle.std.proofs.lemmas.List.{take_rest}
 use Rattle.mg_frame.specs.Frame.{digest}
 use Rattle.mg_frame.proofs.FrameLaws.{appended_last, frame_ended}
