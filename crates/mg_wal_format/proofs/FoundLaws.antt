@@ -16,7 +16,7 @@ use Rattle.mg_wal_format.proofs.SpellingLaws.{one_head}
 -- ---- one log
 
 -- what a first frame has, whatever its number is
-one_frame : (number : ℕ) (body other rest rest' : List ℕ) → length body < 2 ^ 32 → length other < 2 ^ 32 → frame number body ++ rest ≡ frame number other ++ rest' → (body ≡ other) × (rest ≡ rest')
+pub one_frame : (number : ℕ) (body other rest rest' : List ℕ) → length body < 2 ^ 32 → length other < 2 ^ 32 → frame number body ++ rest ≡ frame number other ++ rest' → (body ≡ other) × (rest ≡ rest')
 one_frame number body other rest rest' fits fits' same =
     let len : length body ≡ length other = sym (said_length-frame number body rest fits) ∙ ap said_length same ∙ said_length-frame number other rest' fits' in
     let x = digest (covered number body) ++ rest in
@@ -40,7 +40,7 @@ same_log log other number head rest =
     ∙ ap (λ (h : Head). let l : Log = record { number = other.number; head = h; rest = log.rest } in l) head
     ∙ ap (λ (r : List ℕ). let l : Log = record { number = other.number; head = other.head; rest = r } in l) rest
 
-some_same : {X : Type 0} (x y : X) → Some x ≡ Some y → x ≡ y
+pub some_same : {X : Type 0} (x y : X) → Some x ≡ Some y → x ≡ y
 some_same x y same = cc
 
 -- ---- rising numbers

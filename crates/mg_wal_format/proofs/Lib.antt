@@ -1,4 +1,5 @@
 pub mod ChainLaws
+pub mod FaultLaws
 pub mod FoundLaws
 pub mod FrontLaws
 pub mod LogLaws

@@ -44,7 +44,7 @@ IsNext-same parts counts others rec same next =
 record_fault-same : (file : FileId) (at parts : ℕ) (counts others : Counts) (rec : Rec) → counts rec.part ≡ others rec.part → record_fault file at parts counts rec ≡ record_fault file at parts others rec
 record_fault-same file at parts counts others rec same = ap (λ (n : ℕ). record_fault file at parts (λ _. n) rec) same
 
-IsRecordRefused-same : (file : FileId) (at parts : ℕ) (counts others : Counts) (body : List ℕ) (fault : Fault) → ((part : ℕ) → counts part ≡ others part)
+pub IsRecordRefused-same : (file : FileId) (at parts : ℕ) (counts others : Counts) (body : List ℕ) (fault : Fault) → ((part : ℕ) → counts part ≡ others part)
     → IsRecordRefused file at parts counts body fault → IsRecordRefused file at parts others body fault
 IsRecordRefused-same file at parts counts others body fault same (inl none) = inl none
 IsRecordRefused-same file at parts counts others body fault same (inr (rec, fits, is, why)) =

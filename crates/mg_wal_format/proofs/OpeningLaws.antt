@@ -73,7 +73,7 @@ next_fine file at parts counts rec next =
     ∙ ap (λ (b : Bool). if b then mark else Some (Malformed file at)) (eq-eqb rec.change (counts rec.part + 1) next.change) ∙ mark_fine file at (mark_of rec.what) next.mark_is_kept
 
 -- the body of a head that a log may have is not refused
-head_taken : (file : FileId) (head : Head) (fault : Fault) → file.number < 2 ^ 62 → IsSoundHead head → IsHeadRefused file (head_bytes head) fault → ⊥
+pub head_taken : (file : FileId) (head : Head) (fault : Fault) → file.number < 2 ^ 62 → IsSoundHead head → IsHeadRefused file (head_bytes head) fault → ⊥
 head_taken file head fault named sound (inl (none, why)) = none head sound.fits refl
 head_taken file head fault named sound (inr (other, fits, is, why)) =
     let one : head ≡ other = one_head head other sound.fits fits is in
@@ -99,7 +99,7 @@ none_found : (logs : List Log) → [] ≡ map found_of logs → logs ≡ []
 none_found [] is = refl
 none_found (log ∷ logs) is = absurd cc
 
-newest_fine : (parts : ℕ) (logs : List Log) (fault : Fault) → HasHeads logs → HasRoom parts logs → IsNewestRefused parts (map found_of logs) fault → ⊥
+pub newest_fine : (parts : ℕ) (logs : List Log) (fault : Fault) → HasHeads logs → HasRoom parts logs → IsNewestRefused parts (map found_of logs) fault → ⊥
 newest_fine parts logs fault heads room (older, newest, is, why) =
     let found = found_as logs older newest [] is in
     let last : logs ≡ found.before ++ found.log ∷ [] = found.split ∙ ap (λ (ls : List Log). found.before ++ found.log ∷ ls) (none_found found.behind found.newer_is) in
@@ -127,7 +127,7 @@ wrong_head before log behind fault sound rise (inl refused) = head_taken (log_fi
 wrong_head before log behind fault sound rise (inr (head, named, sound', is, falls, why)) =
     falls_not before log behind rise (subst (Falls before) (sym (one_head log.head head sound.1.fits sound'.fits is)) falls)
 
-heads_fine : (logs : List Log) (fault : Fault) → HasHeads logs → IsHeadsFault (map found_of logs) fault → ⊥
+pub heads_fine : (logs : List Log) (fault : Fault) → HasHeads logs → IsHeadsFault (map found_of logs) fault → ⊥
 heads_fine logs fault heads wrong =
     let found = found_as logs (map found_of wrong.before) wrong.bad wrong.behind wrong.split in
     let sound = sound_at found.before found.log found.behind (subst (AllByRecursion IsSoundLog) found.split heads.0) in
@@ -180,7 +180,7 @@ refused_not file at parts counts number (rec ∷ recs) (other ∷ bad) rest body
     (subst (λ (n : ℕ). Unfit file at parts (counts_after counts (other ∷ bad)) n body fault) step unfit))
 
 -- where a reading goes on, another does not end for want of a next frame
-early_not : (parts : ℕ) (counts : Counts) (number : ℕ) (recs others : List Rec) (rest rest' : List ℕ) → InOrder parts counts number recs → InOrder parts counts number others
+pub early_not : (parts : ℕ) (counts : Counts) (number : ℕ) (recs others : List Rec) (rest rest' : List ℕ) → InOrder parts counts number recs → InOrder parts counts number others
     → frames (map entry_of recs) ++ rest ≡ frames (map entry_of others) ++ rest' → NoFrame (number + length others) rest' → length others < length recs → ⊥
 early_not parts counts number [] others rest rest' ordered ordered' same none less = omega (arith, less)
 early_not parts counts number (rec ∷ recs) [] rest rest' ordered ordered' same none less =
@@ -197,14 +197,14 @@ unfit : (parts : ℕ) (log : Log) (counts : Counts) (number : ℕ) (limit : Opti
     → Unfit (log_file log.number) (offset_behind log wrong.recs) parts (counts_after counts wrong.recs) (number + length wrong.recs) wrong.body fault
 unfit parts log counts number limit fault wrong = told wrong.why
 
-record_fine : (parts : ℕ) (log : Log) (counts : Counts) (number : ℕ) (limit : Option ℕ) (fault : Fault) (recs : List Rec) (rest : List ℕ) → BeginsWith parts counts number log.rest recs rest
+pub record_fine : (parts : ℕ) (log : Log) (counts : Counts) (number : ℕ) (limit : Option ℕ) (fault : Fault) (recs : List Rec) (rest : List ℕ) → BeginsWith parts counts number log.rest recs rest
     → (wrong : IsRecordFault parts log counts number limit fault) → NoFrame (number + length recs) rest ⊎ (length wrong.recs < length recs) → ⊥
 record_fine parts log counts number limit fault recs rest begins wrong stop =
     refused_not (log_file log.number) (offset_behind log wrong.recs) parts counts number recs wrong.recs rest wrong.body wrong.rest fault begins.in_order wrong.begins.in_order
     (sym begins.spelled ∙ wrong.begins.spelled) stop wrong.body_fits (unfit parts log counts number limit fault wrong)
 
 -- two readings of a log up to the same number are one
-same_mine : (parts : ℕ) (counts : Counts) (number : ℕ) (bytes : List ℕ) (recs others : List Rec) (rest rest' : List ℕ) → BeginsWith parts counts number bytes recs rest → BeginsWith parts counts number bytes others rest'
+pub same_mine : (parts : ℕ) (counts : Counts) (number : ℕ) (bytes : List ℕ) (recs others : List Rec) (rest rest' : List ℕ) → BeginsWith parts counts number bytes recs rest → BeginsWith parts counts number bytes others rest'
     → length recs ≡ length others → recs ≡ others
 same_mine parts counts number bytes recs others rest rest' begins begins' len =
     one_log parts counts number recs others rest rest' begins.in_order begins'.in_order (sym begins.spelled ∙ begins'.spelled) (inl len)

@@ -1,4 +1,5 @@
 -- An image has one list of logs. It opens in one way, whichever number of partitions is asked for, and is not refused for that number.
+-- An image that is refused is refused for one fault.
 use Rattle.std.specs.Prelude.{◌≡◌, ℕ, ◌+◌, ◌≤◌, ◌^◌, List, ◌∷◌, ◌++◌, length}
 use Rattle.mg_disk.specs.Images.{Image}
 use Rattle.mg_types.specs.declared.faults.Fault.{Fault}
@@ -26,6 +27,10 @@ OneOpeningLaw = (parts others : ℕ) (image : Image) (logs logs' : List Log) (re
 -- an image that opens is not refused
 abbrev pub NeverRefusedLaw : Type 0
 NeverRefusedLaw = (parts : ℕ) (image : Image) (logs : List Log) (recs : List Rec) (fault : Fault) → Opens parts image logs recs → IsRefused parts image fault → ⊥
+
+-- an image is refused for one fault
+abbrev pub OneFaultLaw : Type 0
+OneFaultLaw = (parts : ℕ) (image : Image) (fault other : Fault) → IsRefused parts image fault → IsRefused parts image other → fault ≡ other
 
 -- an image of which strays are gone opens with the same logs and records
 abbrev pub StraysOpenLaw : Type 0

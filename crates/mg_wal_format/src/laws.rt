@@ -1,7 +1,7 @@
 //! Laws of heads, records and logs. Each function does nothing: its contract is the law.
 
 ghost use Rattle.mg_wal_format.specs.Chains.{FrontOfListLaw};
-ghost use Rattle.mg_wal_format.specs.Opening.{AllInOrderLaw, EndIsKeptLaw, HeadCountsLaw, MorePartsLaw, NeverRefusedLaw, OneListLaw, OneLogsLaw, OneOpeningLaw, StraysOpenLaw, StraysRefusedLaw};
+ghost use Rattle.mg_wal_format.specs.Opening.{AllInOrderLaw, EndIsKeptLaw, HeadCountsLaw, MorePartsLaw, NeverRefusedLaw, OneFaultLaw, OneListLaw, OneLogsLaw, OneOpeningLaw, StraysOpenLaw, StraysRefusedLaw};
 ghost use Rattle.mg_wal_format.specs.Spelling.{OneHeadLaw, OneRecordLaw};
 ghost use Rattle.mg_wal_format.specs.Torn.{TornWalLaw};
 
@@ -24,13 +24,15 @@ pub const fn front_of_list()
 {}
 
 /// An image has one list of logs, and these give one list of records. So an image that opens does so in one way, whichever
-/// number of partitions is asked for, and for more of them too; and it is not refused.
+/// number of partitions is asked for, and for more of them too; and it is not refused. An image is refused for at most one
+/// fault.
 pub const fn one_opening()
     ensures logs { OneLogsLaw }
     ensures list { OneListLaw }
     ensures more { MorePartsLaw }
     ensures one { OneOpeningLaw }
     ensures apart { NeverRefusedLaw }
+    ensures fault { OneFaultLaw }
 {}
 
 /// All records that logs give are in order, and each head has the number and the counts behind the records before it.
