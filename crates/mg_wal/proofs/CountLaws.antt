@@ -6,17 +6,17 @@ use Rattle.mg_wal_format.specs.Records.{Counts}
 use Rattle.mg_wal_format.proofs.LogLaws.{IsNext-same}
 
 -- the same count of each partition
-abbrev Same : Counts → Counts → Type 0
+abbrev pub Same : Counts → Counts → Type 0
 Same counts others = (part : ℕ) → counts part ≡ others part
 
 one_more-same : (counts others : Counts) (part : ℕ) → Same counts others → Same (one_more counts part) (one_more others part)
 one_more-same counts others part same other = ap (λ (n : ℕ). if eqb other part then n + 1 else n) (same other)
 
-counts_after-same : (counts others : Counts) (recs : List Rec) → Same counts others → Same (counts_after counts recs) (counts_after others recs)
+pub counts_after-same : (counts others : Counts) (recs : List Rec) → Same counts others → Same (counts_after counts recs) (counts_after others recs)
 counts_after-same counts others [] same = same
 counts_after-same counts others (rec ∷ recs) same = counts_after-same (one_more counts rec.part) (one_more others rec.part) recs (one_more-same counts others rec.part same)
 
-InOrder-same : (parts : ℕ) (counts others : Counts) (number : ℕ) (recs : List Rec) → Same counts others → InOrder parts counts number recs → InOrder parts others number recs
+pub InOrder-same : (parts : ℕ) (counts others : Counts) (number : ℕ) (recs : List Rec) → Same counts others → InOrder parts counts number recs → InOrder parts others number recs
 InOrder-same parts counts others number [] same ordered = tt
 InOrder-same parts counts others number (rec ∷ recs) same ordered = (
   ordered.0,
@@ -25,7 +25,7 @@ InOrder-same parts counts others number (rec ∷ recs) same ordered = (
   InOrder-same parts (one_more counts rec.part) (one_more others rec.part) (number + 1) recs (one_more-same counts others rec.part same) ordered.3,
 )
 
-BeginsWith-same : (parts : ℕ) (counts others : Counts) (number : ℕ) (bytes : List ℕ) (recs : List Rec) (rest : List ℕ) → Same counts others → BeginsWith parts counts number bytes recs rest
+pub BeginsWith-same : (parts : ℕ) (counts others : Counts) (number : ℕ) (bytes : List ℕ) (recs : List Rec) (rest : List ℕ) → Same counts others → BeginsWith parts counts number bytes recs rest
     → BeginsWith parts others number bytes recs rest
 BeginsWith-same parts counts others number bytes recs rest same begins = record { in_order = InOrder-same parts counts others number recs same begins.in_order; spelled = begins.spelled }
 

@@ -20,8 +20,8 @@ by_parts a b (inl kind) (inr number) = inr (λ same. number (ap (λ (name : Name
 by_parts a b (inr kind) number = inr (λ same. kind (ap (λ (name : Name). kind_code name.kind) same))
 
 -- two names are the same or are not
-same_or_other : (a b : Name) → (a ≡ b) ⊎ (a ≢ b)
-same_or_other a b = by_parts a b (cases_eq (kind_code a.kind) (kind_code b.kind)) (cases_eq a.number b.number)
+pub same_or_other_name : (a b : Name) → (a ≡ b) ⊎ (a ≢ b)
+same_or_other_name a b = by_parts a b (cases_eq (kind_code a.kind) (kind_code b.kind)) (cases_eq a.number b.number)
 
 -- where one name was set, a name that began with these bytes does so still
 set_by : (own name : Name) (value : Option (List ℕ)) (kept : List ℕ) (old new : Image) → (name ≡ own) ⊎ (name ≢ own) → Begins name kept old → (name ≡ own → (behind : List ℕ) × (value ≡ Some (kept ++ behind))) → Sets own value old new → Begins name kept new
@@ -37,10 +37,10 @@ grown_by own name most kept old new (inr other) was grown = (was.0, grown.after.
 pub append_begins : {T E : Type 0} (r : Result T E) (own name : Name) (bytes kept : List ℕ) (old new : View) → OnOk r (Appended own bytes old new) → OnErr r (AppendFailed own bytes old new) → EachImage old (Begins name kept)
     → Elapses old new × EachImage new (Begins name kept)
 append_begins (Ok x) own name bytes kept old new done failed all =
-    (done.time, λ c left. let from = done.images c left in grown_by own name _ kept from.0 c (same_or_other name own) (all from.0 from.1) from.2)
+    (done.time, λ c left. let from = done.images c left in grown_by own name _ kept from.0 c (same_or_other_name name own) (all from.0 from.1) from.2)
 append_begins (Err e) own name bytes kept old new done (inl stays) all = (stays.time, λ c left. all c (stays.images c left))
 append_begins (Err e) own name bytes kept old new done (inr part) all =
-    (part.appended.time, λ c left. let from = part.appended.images c left in grown_by own name _ kept from.0 c (same_or_other name own) (all from.0 from.1) from.2)
+    (part.appended.time, λ c left. let from = part.appended.images c left in grown_by own name _ kept from.0 c (same_or_other_name name own) (all from.0 from.1) from.2)
 
 -- the same of a log's sync
 pub sync_begins : {T E : Type 0} (r : Result T E) (own name : Name) (kept : List ℕ) (old new : View) → old.may_leave old.contents → OnOk r (Synced own old new) → OnErr r (Stays old new) → EachImage old (Begins name kept)
@@ -49,7 +49,7 @@ sync_begins (Ok x) own name kept old new now done failed all =
     let found = all old.contents now in (
       done.time,
       λ c left. let from = done.images c left in
-          set_by own name (old.contents own) kept from.0 c (same_or_other name own) (all from.0 from.1) (λ same. (found.0, ap old.contents (sym same) ∙ found.1)) from.2,
+          set_by own name (old.contents own) kept from.0 c (same_or_other_name name own) (all from.0 from.1) (λ same. (found.0, ap old.contents (sym same) ∙ found.1)) from.2,
     )
 sync_begins (Err e) own name kept old new now done stays all = (stays.time, λ c left. all c (stays.images c left))
 
@@ -60,7 +60,7 @@ none_begins own name kept image absent (behind, was) same =
 
 made_by : (own name : Name) (kept : List ℕ) (old : View) (c d : Image) → old.may_leave old.contents → old.contents own ≡ None → EachImage old (Begins name kept) → old.may_leave d → Sets own (Some []) d c → Begins name kept c
 made_by own name kept old c d now absent all left sets =
-    set_by own name (Some []) kept d c (same_or_other name own) (all d left) (λ same. absurd (none_begins own name kept old.contents absent (all old.contents now) same)) sets
+    set_by own name (Some []) kept d c (same_or_other_name name own) (all d left) (λ same. absurd (none_begins own name kept old.contents absent (all old.contents now) same)) sets
 
 -- the same of a log that is made where there was none
 pub made_begins : {T E : Type 0} (r : Result T E) (own name : Name) (kept : List ℕ) (old new : View) → old.may_leave old.contents → old.contents own ≡ None

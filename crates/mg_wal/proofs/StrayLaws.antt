@@ -127,7 +127,7 @@ seen_without basis scene newest number old new seen unsure written images =
       below = seen.below;
     }
 
-goes_by : (number : ℕ) (old new : View) → NameSet (log_name number) None old new ⊎ NameInDoubt (log_name number) None old new → Elapses old new × (new.written ≡ old.written) × IsWithout number old new
+pub goes_by : (number : ℕ) (old new : View) → NameSet (log_name number) None old new ⊎ NameInDoubt (log_name number) None old new → Elapses old new × (new.written ≡ old.written) × IsWithout number old new
 goes_by number old new (inl set) = (set.time, set.written, λ image left. inr (set.images image left))
 goes_by number old new (inr doubt) = (doubt.time, doubt.written, doubt.images)
 

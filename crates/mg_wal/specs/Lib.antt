@@ -1,4 +1,5 @@
 pub mod Book
+pub mod Findings
 pub mod Lists
 pub mod Moves
 pub mod Openings
@@ -6,5 +7,7 @@ pub mod Releases
 pub mod Scenes
 pub mod States
 pub mod Stories
+pub mod Strays
+pub mod Streams
 pub mod Syncs
 pub mod Times

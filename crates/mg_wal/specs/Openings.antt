@@ -1,7 +1,8 @@
 -- What an opening finds, and the state that it makes of it.
-use Rattle.std.specs.Prelude.{◌≡◌, ℕ, Bool, ◌≤◌, ◌⊎◌, List, [], length, get_or, None, IsSome, Some, map}
+use Rattle.std.specs.Prelude.{◌≡◌, ℕ, Bool, ◌+◌, ◌-◌, ◌≤◌, ◌⊎◌, List, [], length, get_or, None, IsSome, Some, map}
 use Rattle.mg_disk.specs.Images.{Image, NameInDoubt, NameSet, Settled, View}
 use Rattle.mg_frame.specs.Frame.{NoFrame}
+use Rattle.mg_wal_format.specs.declared.record.Rec.{Rec}
 use Rattle.mg_wal_format.specs.Logs.{Log}
 use Rattle.mg_wal_format.specs.Recovery.{end_of, first_of, log_name, low_of, Opens, last_number}
 use Rattle.mg_wal.specs.declared.known.KnownLog.{KnownLog}
@@ -36,6 +37,14 @@ pub record IsFresh (basis : Basis) (found : List Log) (book : Book) : Type 0 whe
   pub newest : book.newest ≡ basis.newest
   pub anchor : book.anchor ≡ last_number found
   pub logs : book.logs ≡ map log_known found
+
+-- what was found, by the book, the records and the counts that an opening answers
+abbrev pub basis_for : Book → List Rec → List ℕ → Basis
+basis_for book recs low = record { low = low; first = book.last + 1 - length recs; opened = recs; reached = book.reach; newest = book.newest }
+
+-- what an opening of this image found, and the state that it made of it
+abbrev pub OpensAs : Image → Basis → Book → Type 0
+OpensAs image basis book = (is : IsFound image basis) × IsFresh basis is.logs book
 
 -- a state that was opened reaches what was found, from the moment of the settled volume on
 abbrev pub OpeningReachesLaw : Type 1

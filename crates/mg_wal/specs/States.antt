@@ -1,7 +1,10 @@
 -- The book of a state, and its volume.
 use Rattle.std.specs.Option.{option_map}
 use Rattle.mg_wal.specs.Book.{Book}
+use Rattle.mg_wal.specs.Lists.{Basis}
+use Rattle.mg_wal.specs.Openings.{basis_for}
 use Rattle.mg_wal.specs.declared.ledger.Ledger.{Ledger}
+use Rattle.mg_wal.specs.declared.reading.Opened.{Opened}
 use Rattle.mg_wal.specs.declared.state.WalState.{WalState}
 
 -- the book of a ledger
@@ -20,6 +23,10 @@ ledger_book ledger =
       anchor = ledger.anchor;
       logs = ledger.logs.items;
     }
+
+-- what an opening found, by what it made of it
+abbrev pub opened_basis : Opened → Basis
+opened_basis opened = basis_for (ledger_book opened.ledger) opened.records.items opened.low.items
 
 -- the volume of a state
 abbrev pub volume_of : {V A B C D : Type 0} {volume : _} {files : _} → WalState V A B C D volume files → V

@@ -5,6 +5,7 @@ ghost use Rattle.mg_disk.specs.Images.{KeepsOthers, NameInDoubt, NameSet, Sets};
 ghost use Rattle.mg_faults.specs.Causes.{CountsOnce, HasCause};
 ghost use Rattle.mg_wal_format.specs.Recovery.{log_name};
 ghost use Rattle.mg_wal.specs.Stories.{AppendKeeps, BeginKeeps};
+ghost use Rattle.mg_wal.specs.Findings.{read_fault};
 ghost use Rattle.mg_wal.specs.Syncs.{write_fault, Adds, IsLasting, IsUnwritten, KeepsSure};
 
 use mg_disk::{DiskError, Kind, Name, Volume};
@@ -18,6 +19,16 @@ fn write_fault(error: DiskError) -> Fault
     match error {
         DiskError::NoMemory => Fault::NoMemory,
         DiskError::Failed => Fault::WriteFault,
+    }
+}
+
+/// What a call answers where a read gave up so.
+pub(crate) fn read_fault(error: DiskError) -> Fault
+    ensures { result ≡ read_fault error }
+{
+    match error {
+        DiskError::NoMemory => Fault::NoMemory,
+        DiskError::Failed => Fault::ReadFault,
     }
 }
 

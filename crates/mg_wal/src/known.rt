@@ -1,5 +1,9 @@
 //! The logs that a crash may leave.
 
+ghost use Rattle.std.specs.Prelude.{◌≡◌};
+ghost use Rattle.mg_wal_format.specs.Recovery.{log_file};
+
+use mg_types::{FileId, Kind};
 use mg_wal_format::Head;
 
 /// A log that may stand, and its head.
@@ -9,4 +13,15 @@ pub struct KnownLog {
     pub number: u64,
     /// Its head.
     pub head: Head,
+}
+
+/// The log with this number, as a fault names it.
+pub(crate) const fn log_file(number: u64) -> FileId
+    ensures { result ≡ log_file number }
+{
+    FileId {
+        part: 65535,
+        kind: Kind::Wal,
+        number,
+    }
 }

@@ -211,7 +211,7 @@ impl Ledger {
 }
 
 /// Whether each of these counts is covered by what is released.
-fn covers(released: &[u64], before: &[u64]) -> bool
+pub(crate) fn covers(released: &[u64], before: &[u64]) -> bool
     ensures yes { IsTrue result → Covers released.now before.now }
     ensures no { result ≡ false → Covers released.now before.now → ⊥ }
 {

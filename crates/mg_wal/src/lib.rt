@@ -1,19 +1,27 @@
 //! The one list of changes of all partitions, and the volume that keeps it as a shared log.
 //!
-//! Records are reserved, pushed and synced. The calls that open a volume and let logs go are not built yet, so outside of tests
-//! no state is made.
+//! `recover` opens a volume and answers the records that it has. Then records are reserved, pushed and synced, and logs that no
+//! partition needs are released.
 #![tactic(auto)]
 
 mod devices;
+mod finding;
 mod frames;
+mod heads;
 mod known;
 pub mod laws;
 mod ledger;
+mod pieces;
+mod reading;
 mod receipt;
+mod recovery;
 mod state;
+mod strays;
+mod stream;
 #[cfg(test)]
 mod tests;
 
 pub use known::KnownLog;
 pub use receipt::Receipt;
+pub use recovery::{RecoverError, recover};
 pub use state::WalState;
