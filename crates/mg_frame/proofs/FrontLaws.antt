@@ -1,10 +1,9 @@
 -- A front of some bytes decides about the frame that they begin with.
-use Rattle.std.proofs.Common.{◌≡◌, ◌⊎◌, inl, inr, ℕ, ◌+◌, ◌<◌, ◌≤◌, List, [], ◌++◌, length, take, drop, sym, refl, ap, ◌∙◌, arith, append_assoc, append-nil}
+use Rattle.std.proofs.Common.{◌≡◌, ◌⊎◌, inl, inr, ℕ, ◌+◌, ◌<◌, ◌≤◌, List, [], length, take, sym, refl, ap, ◌∙◌, arith, append-nil}
 use Rattle.std.proofs.lemmas.Bool.{cases_eq, cases_lt, eq-eqb, le-ltb, lt-ltb, ne_eqb}
-use Rattle.std.proofs.lemmas.List.{length-append, nil_from_length, take-append-drop, take-take, take_at}
-use Rattle.std.specs.Prelude.{slice_range}
+use Rattle.std.proofs.lemmas.List.{length-append, nil_from_length, take-take, take_at}
 use Rattle.mg_frame.specs.BigEndian.{big_endian_value}
-use Rattle.mg_frame.specs.Frame.{frame, judged, said_length, taken, IsFrameAt, NoFrame}
+use Rattle.mg_frame.specs.Frame.{frame, judged, said_length, taken, NoFrame}
 use Rattle.mg_frame.specs.declared.frame.Taken.{Taken}
 use Rattle.mg_frame.specs.declared.frame.Taken.TheVariants.{Whole, End, Short, Number, Torn}
 use Rattle.mg_frame.proofs.FrameLaws.{length-frame, said_length-frame}
@@ -27,13 +26,6 @@ none_by_front number size bytes sized none = λ body rest fits is.
     let said : said_length bytes ≡ length body = ap said_length is ∙ said_length-frame number body rest fits in
     let front : take size bytes ≡ frame number body = ap (take size) is ∙ take_at (frame number body) rest size (length-frame number body ∙ ap (λ (k : ℕ). k + 20) (sym said) ∙ sym sized) in
     none body [] fits (front ∙ sym (append-nil (frame number body)))
-
--- the frame that a front begins with
-pub frame_by_front : (number size start end next : ℕ) (bytes : List ℕ) → IsFrameAt (take size bytes) 0 number start end next
-    → bytes ≡ frame number (slice_range (take size bytes) start end) ++ (drop next (take size bytes) ++ drop size bytes)
-frame_by_front number size start end next bytes at =
-    sym (take-append-drop size bytes) ∙ ap (λ (xs : List ℕ). xs ++ drop size bytes) at.spelled
-    ∙ append_assoc (frame number (slice_range (take size bytes) start end)) (drop next (take size bytes)) (drop size bytes)
 
 -- what is found where there are too few bytes for a frame
 abbrev pub IsTooFew : List ℕ → Taken → Type 0
