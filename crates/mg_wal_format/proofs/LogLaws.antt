@@ -50,10 +50,10 @@ IsRecordRefused-same file at parts counts others body fault same (inl none) = in
 IsRecordRefused-same file at parts counts others body fault same (inr (rec, fits, is, why)) =
     inr (rec, fits, is, sym (record_fault-same file at parts counts others rec (same rec.part)) ∙ why)
 
-pub HasRefusedAt-same : (file : FileId) (parts : ℕ) (counts others : Counts) (bytes : List ℕ) (at number : ℕ) (fault : Fault) → ((part : ℕ) → counts part ≡ others part)
-    → HasRefusedAt file parts counts bytes at number fault → HasRefusedAt file parts others bytes at number fault
-HasRefusedAt-same file parts counts others bytes at number fault same has =
-    record { body = has.body; rest = has.rest; body_fits = has.body_fits; spelled = has.spelled; why = IsRecordRefused-same file at parts counts others has.body fault same has.why }
+pub HasRefusedAt-same : (file : FileId) (base parts : ℕ) (counts others : Counts) (bytes : List ℕ) (at number : ℕ) (fault : Fault) → ((part : ℕ) → counts part ≡ others part)
+    → HasRefusedAt file base parts counts bytes at number fault → HasRefusedAt file base parts others bytes at number fault
+HasRefusedAt-same file base parts counts others bytes at number fault same has =
+    record { body = has.body; rest = has.rest; body_fits = has.body_fits; spelled = has.spelled; why = IsRecordRefused-same file (base + at) parts counts others has.body fault same has.why }
 
 -- ---- one record more
 
@@ -117,16 +117,16 @@ read_more counts now first number bytes at stop recs rec next has are parts numb
     (subst (λ (n : ℕ). HasNextAt n (counts_in now) bytes stop number rec next) parts one)))
 
 -- a refusal behind records that were read and counted
-pub refused_behind : (file : FileId) (counts now : List ℕ) (first number limit : ℕ) (bytes : List ℕ) (at stop : ℕ) (recs : List Rec) (fault : Fault)
+pub refused_behind : (file : FileId) (base : ℕ) (counts now : List ℕ) (first number limit : ℕ) (bytes : List ℕ) (at stop : ℕ) (recs : List Rec) (fault : Fault)
     → HasRecords (length counts) (counts_in counts) first bytes at recs stop → ((part : ℕ) → get_or now part 0 ≡ counts_after (counts_in counts) recs part) → length now ≡ length counts
-    → first + length recs ≡ number → number < limit → HasRefusedAt file (length now) (counts_in now) bytes stop number fault → IsLogRefused file (length counts) (counts_in counts) first limit bytes at fault
-refused_behind file counts now first number limit bytes at stop recs fault has are parts numbers below one =
+    → first + length recs ≡ number → number < limit → HasRefusedAt file base (length now) (counts_in now) bytes stop number fault → IsLogRefused file base (length counts) (counts_in counts) first limit bytes at fault
+refused_behind file base counts now first number limit bytes at stop recs fault has are parts numbers below one =
     record {
       recs = recs;
       stop = stop;
       records = has;
       below = omega (arith, numbers, below);
-      refused = HasRefusedAt-same file (length counts) (counts_in now) (counts_after (counts_in counts) recs) bytes stop (first + length recs) fault are
-          (subst (λ (n : ℕ). HasRefusedAt file (length counts) (counts_in now) bytes stop n fault) (sym numbers)
-          (subst (λ (n : ℕ). HasRefusedAt file n (counts_in now) bytes stop number fault) parts one));
+      refused = HasRefusedAt-same file base (length counts) (counts_in now) (counts_after (counts_in counts) recs) bytes stop (first + length recs) fault are
+          (subst (λ (n : ℕ). HasRefusedAt file base (length counts) (counts_in now) bytes stop n fault) (sym numbers)
+          (subst (λ (n : ℕ). HasRefusedAt file base n (counts_in now) bytes stop number fault) parts one));
     }

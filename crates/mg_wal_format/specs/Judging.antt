@@ -17,13 +17,13 @@ pub record HasNextAt (parts : ℕ) (counts : Counts) (bytes : List ℕ) (at numb
   pub behind : next ≡ at + length (frame number (record_bytes rec))
   pub within : next ≤ length bytes
 
--- a whole frame of this number stands in the bytes at this offset, and its body is refused
-pub record HasRefusedAt (file : FileId) (parts : ℕ) (counts : Counts) (bytes : List ℕ) (at number : ℕ) (fault : Fault) : Type 0 where
+-- a whole frame of this number stands at this offset in bytes that begin at the offset `base` of the file, and its body is refused
+pub record HasRefusedAt (file : FileId) (base parts : ℕ) (counts : Counts) (bytes : List ℕ) (at number : ℕ) (fault : Fault) : Type 0 where
   pub body : List ℕ
   pub rest : List ℕ
   pub body_fits : length body < 2 ^ 32
   pub spelled : drop at bytes ≡ frame number body ++ rest
-  pub why : IsRecordRefused file at parts counts body fault
+  pub why : IsRecordRefused file (base + at) parts counts body fault
 
 -- these records stand in the bytes from one offset to another
 pub record HasRecords (parts : ℕ) (counts : Counts) (number : ℕ) (bytes : List ℕ) (at : ℕ) (recs : List Rec) (stop : ℕ) : Type 0 where
@@ -37,10 +37,10 @@ pub record GivesUpTo (parts : ℕ) (counts : Counts) (number limit : ℕ) (bytes
   pub below : number + length recs ≤ limit
   pub ends : (number + length recs ≡ limit) ⊎ NoFrame (number + length recs) (drop stop bytes)
 
--- behind good records below the limit a whole frame of the next number, whose body is refused
-pub record IsLogRefused (file : FileId) (parts : ℕ) (counts : Counts) (number limit : ℕ) (bytes : List ℕ) (at : ℕ) (fault : Fault) : Type 0 where
+-- behind good records below the limit, in bytes that begin at the offset `base` of the file, a whole frame of the next number, whose body is refused
+pub record IsLogRefused (file : FileId) (base parts : ℕ) (counts : Counts) (number limit : ℕ) (bytes : List ℕ) (at : ℕ) (fault : Fault) : Type 0 where
   pub recs : List Rec
   pub stop : ℕ
   pub records : HasRecords parts counts number bytes at recs stop
   pub below : number + length recs < limit
-  pub refused : HasRefusedAt file parts (counts_after counts recs) bytes stop (number + length recs) fault
+  pub refused : HasRefusedAt file base parts (counts_after counts recs) bytes stop (number + length recs) fault

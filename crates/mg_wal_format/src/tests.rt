@@ -314,7 +314,16 @@ fn a_log_gives_its_whole_records_below_the_limit(rt: HostRuntime) -> Result<(), 
                 (false, 1) => (1, 77),
                 (false, _) => (2, 108),
             };
-            let log = read_log(alloc, LOG, &WORKED[..len], 39, 1, limit, [0].to_vec(alloc)?)?;
+            let log = read_log(
+                alloc,
+                LOG,
+                0,
+                &WORKED[..len],
+                39,
+                1,
+                limit,
+                [0].to_vec(alloc)?,
+            )?;
             assert!(rt; log.records.len() == count && log.stop == stop);
             assert!(rt; log.counts.as_slice() == [count as u64].as_slice());
         }
@@ -327,17 +336,17 @@ fn a_log_is_refused_at_the_frame(rt: HostRuntime) -> Result<(), Fail> {
     let alloc = rt.alloc();
     for (counted, at) in [(1, 39), (2, 39), (1 << 62, 39)] {
         let counts = [counted].to_vec(alloc)?;
-        let read = read_log(alloc, LOG, WORKED, 39, 1, 1 << 62, counts);
+        let read = read_log(alloc, LOG, 0, WORKED, 39, 1, 1 << 62, counts);
         assert!(rt; read.err() == Some(Fault::Malformed { file: LOG, at }));
     }
     // The third record is of a second partition: its frame is made here, the first two are the worked ones.
     let mut bytes = WORKED[..108].to_vec(alloc)?;
     mg_frame::put_frame(3, b"\0\x01\0\0\0\0\0\0\0\x01\x06", &mut bytes)?;
     let counts = [0].to_vec(alloc)?;
-    let one = read_log(alloc, LOG, &bytes, 39, 1, 1 << 62, counts);
+    let one = read_log(alloc, LOG, 0, &bytes, 39, 1, 1 << 62, counts);
     assert!(rt; one.err() == Some(Fault::Malformed { file: LOG, at: 108 }));
     let counts = [0, 0].to_vec(alloc)?;
-    let two = read_log(alloc, LOG, &bytes, 39, 1, 1 << 62, counts)?;
+    let two = read_log(alloc, LOG, 0, &bytes, 39, 1, 1 << 62, counts)?;
     assert!(rt; two.records.len() == 3 && two.stop == bytes.len());
     assert!(rt; two.counts.as_slice() == [2, 1].as_slice());
     Ok(())

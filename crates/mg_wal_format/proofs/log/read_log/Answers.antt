@@ -27,9 +27,9 @@ returns-in_err-rec-clause-refusals c =
     let counts = c.args.counts.items in
     let l = c.loop-number in
     let fault = c.in_err-rec.field-0.0 in
-    err_is c.from_residual.result fault (λ f. (f ≡ NoMemory) ⊎ IsLogRefused c.args.file (length counts) (counts_in counts) c.args.first c.args.limit c.args.bytes.now c.args.at f) (grind (arith, common_steps))
+    err_is c.from_residual.result fault (λ f. (f ≡ NoMemory) ⊎ IsLogRefused c.args.file c.args.base (length counts) (counts_in counts) c.args.first c.args.limit c.args.bytes.now c.args.at f) (grind (arith, common_steps))
     (or_else
-    (refused_behind c.args.file counts l.counts.items c.args.first l.number c.args.limit c.args.bytes.now c.args.at l.stop l.records.items fault
+    (refused_behind c.args.file c.args.base counts l.counts.items c.args.first l.number c.args.limit c.args.bytes.now c.args.at l.stop l.records.items fault
     l.invariant.records l.invariant.counts l.invariant.parts l.invariant.numbers (omega (arith, c.loop-number-test.true)))
     (rw c.deref.ensures.value at c.in_err-rec.ensures.refusals))
 

@@ -7,4 +7,4 @@ pub returns-clause-next : goal.returns-clause-next
 returns-clause-next c =
     let read = c.in_ok-rec.ensures.next in
     next_stands (length c.args.counts.now) (counts_in c.args.counts.now) c.args.bytes.now c.args.at c.args.number c.in-Whole.start c.in-Whole.end c.in-Whole.next c.in_ok-rec.rec
-    c.requires c.in-Whole.ensures.meaning.0 read.0 read.1 read.2
+    c.requires.within c.in-Whole.ensures.meaning.0 read.0 read.1 read.2
