@@ -1,5 +1,5 @@
 -- The removal of strays, one after another: what is removed is gone, and the rest is as it was.
-use Rattle.std.proofs.Common.{◌≡◌, ◌≢◌, ⊎_elim, ℕ, ◌+◌, ◌<◌, ◌⊎◌, inl, inr, List, [], ◌∷◌, ◌++◌, length, get_or, take, drop, Option, None, Some, refl, sym, ap, subst, ◌∙◌, arith}
+use Rattle.std.proofs.Common.{◌≡◌, ◌≢◌, ⊎_elim, ℕ, ◌+◌, ◌<◌, ◌⊎◌, inl, inr, List, [], ◌∷◌, ◌++◌, length, get_or, take, drop, Option, None, Some, refl, sym, ap, subst, ◌∙◌, arith, ◌≤◌}
 use Rattle.std.proofs.lemmas.List.{drop_more, take_more}
 use Rattle.std.specs.List.{AllByRecursion}
 use Rattle.std.specs.Prelude.{IfSome}
@@ -224,3 +224,8 @@ less_after old mid new only_now only stays less =
 
 pub clears_after : (numbers : List ℕ) (old mid new : View) → AreStrays old.contents numbers → Stays old mid → Removes numbers mid.contents new.contents → Clears old.contents new.contents
 clears_after numbers old mid new are stays removes = clears numbers old.contents new.contents are (subst (λ (image : Image). Removes numbers image new.contents) stays.contents removes)
+
+-- the first of some strays is one
+pub first_stray : (image : Image) (numbers : List ℕ) → 1 ≤ length numbers → AllByRecursion (λ number. IsStray image (log_name number)) numbers → (number : ℕ) × IsStray image (log_name number)
+first_stray image [] some all = absurd (omega (arith, some))
+first_stray image (number ∷ numbers) some all = (number, all.0)

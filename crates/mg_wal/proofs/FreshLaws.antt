@@ -131,6 +131,7 @@ made_books logs recs low book made =
     none_staged : (staged : Option Staged) → staged ≡ None → IfSome staged (λ s. (e : Entry) × IsNextOf book e × (s ≡ staged_of book e))
     none_staged None is = tt
     none_staged (Some s) is = absurd (none_is_not_found (Some s) is s refl)
+
     reach_below : ((logs ≡ []) × (recs ≡ []) × (book.reach ≡ 0)) ⊎ ((0 < length logs) × (book.reach ≡ book.last + 1)) → book.reach ≤ book.last + 1
     reach_below (inl (none, no_recs, zero_reach)) = omega (arith, zero_reach)
     reach_below (inr (some, is)) = omega (arith, is)

@@ -79,9 +79,12 @@ stand_of image (log ∷ logs) all = (all.0.1, stand_of image logs all.1)
 pub stand_found : (image now : Image) (parts : ℕ) (logs : FoundLogs) (known : List KnownLog) → HasFound image logs → TellsHeads parts logs.whole.items known → now ≡ image
     → (found : List Log) × AreKnown known found × StandIn now found
 stand_found image now parts logs known has tells same =
-    let judged = tells has.found has.whole in
-    (judged.0, judged.2, subst (λ (i : Image). StandIn i judged.0) (sym same)
-    (stand_of image judged.0 (subst (AllByRecursion (λ (found : Found). (length found.body < 2 ^ 32) × (image (log_name found.number) ≡ Some (log_bytes found)))) judged.1 has.are.stand)))
+    let judged = tells has.found has.whole in (
+      judged.0,
+      judged.2,
+      subst (λ (i : Image). StandIn i judged.0) (sym same)
+          (stand_of image judged.0 (subst (AllByRecursion (λ (found : Found). (length found.body < 2 ^ 32) × (image (log_name found.number) ≡ Some (log_bytes found)))) judged.1 has.are.stand)),
+    )
 
 -- ---- refusals
 
@@ -116,17 +119,19 @@ unfolding stand_found
 opens_as image now parts logs known low recs book has tells same len counts gives first reached fresh newest =
     let judged = tells has.found has.whole in
     let found = judged.0 in
-    let stand = stand_found image now parts logs known has tells same in
-    (record {
-      logs = found;
-      opens = record {
-        found = subst (AreLogs image) judged.1 has.are;
-        heads = judged.3;
-        room = subst (λ (n : ℕ). HasRoom n found) (sym len) judged.4;
-        gives = gives found judged.2 stand.2;
-      };
-      first = first found judged.2;
-      low = counts found judged.2 judged.4 judged.3;
-      reached = reached found judged.2;
-      newest = subst (IsNewestName image) (sym newest) has.newest;
-    }, fresh found judged.2)
+    let stand = stand_found image now parts logs known has tells same in (
+      record {
+        logs = found;
+        opens = record {
+          found = subst (AreLogs image) judged.1 has.are;
+          heads = judged.3;
+          room = subst (λ (n : ℕ). HasRoom n found) (sym len) judged.4;
+          gives = gives found judged.2 stand.2;
+        };
+        first = first found judged.2;
+        low = counts found judged.2 judged.4 judged.3;
+        reached = reached found judged.2;
+        newest = subst (IsNewestName image) (sym newest) has.newest;
+      },
+      fresh found judged.2,
+    )

@@ -1,8 +1,6 @@
 -- Calls that read a volume, one after the other.
-use Rattle.std.proofs.Common.{◌≡◌, ◌∙◌, ◌≤◌, ⊎_elim, ap, arith, inl, inr, ℕ, Err, Ok, Result, subst, sym}
-use Rattle.std.specs.Prelude.{IfOk, IfSome, IsErr, MatchResult, is_ok, None, Option, Some}
-use Rattle.std.specs.Result.{IsErrOf}
-use Rattle.mg_disk.specs.Images.{Elapses, Image, Stays, View}
+use Rattle.std.proofs.Common.{◌≡◌, ◌∙◌, ◌≤◌, ⊎_elim, ap, arith, inl, inr, ℕ, Err, Ok, Result}
+use Rattle.mg_disk.specs.Images.{Image, Stays, View}
 use Rattle.mg_faults.specs.Causes.{HasCause, Rose}
 use Rattle.mg_types.specs.declared.faults.Fault.{Fault}
 use Rattle.mg_types.specs.declared.faults.Fault.TheVariants.{NoMemory, ReadFault}

@@ -1,5 +1,5 @@
 -- The logs of an image, found one by one in the order of their numbers.
-use Rattle.std.proofs.Common.{◌≡◌, ◌∙◌, ◌<◌, ◌≤◌, ◌+◌, ◌-◌, ◌^◌, ◌++◌, ◌⊎◌, ◌∷◌, ⊎_elim, ap, append-nil, arith, drop, get_or, inl, inr, length, List, map, ℕ, refl, subst, sym, take, zero, suc, []}
+use Rattle.std.proofs.Common.{◌≡◌, ◌∙◌, ◌<◌, ◌≤◌, ◌+◌, ◌-◌, ◌^◌, ◌++◌, ◌⊎◌, ◌∷◌, ⊎_elim, ap, arith, get_or, inl, inr, length, List, map, ℕ, refl, subst, sym, take, zero, suc, []}
 use Rattle.std.proofs.lemmas.Bool.{cases_lt}
 use Rattle.std.proofs.lemmas.List.{get_or_default, get_or-take, length-take, map-append, take_all, take_more}
 use Rattle.std.proofs.lemmas.List.Elements.{Contains-append_cases, Contains-append_left, Contains-append_right}
@@ -96,12 +96,12 @@ module _ (image : Image) (numbers : List ℕ) (whole : List HeadFrame) (strays :
   grown n has = Contains-append_left numbers (number ∷ []) n has
 
   pub scanned_whole : (body : List ℕ) → IsFirstBody image number (Some body) → IsScanned image (numbers ++ number ∷ []) (whole ++ (let frame : HeadFrame = record { number = number; body = body } in frame) ∷ []) strays
-  scanned_whole body (rest, fits, stands) =
+  scanned_whole body (bytes, stands, (rest, fits, spelled)) =
       let last : Found = record { number = number; body = body; rest = rest } in
       record {
         found = so_far.found ++ last ∷ [];
         whole_is = map-append head_frame so_far.found (last ∷ []) ∙ ap (λ (frames : List HeadFrame). frames ++ head_frame last ∷ []) so_far.whole_is;
-        stand = all_append (Stands image) so_far.found (last ∷ []) so_far.stand ((fits, stands), tt);
+        stand = all_append (Stands image) so_far.found (last ∷ []) so_far.stand ((fits, stands ∙ ap (λ (bytes : List ℕ). Some bytes) spelled), tt);
         rise = rise_more so_far.found last so_far.rise
             (all_then (λ (one : Found). Contains numbers one.number) (λ (one : Found). one.number < number) so_far.found (λ one has. less one.number has) so_far.among_numbers);
         among_numbers = all_append (λ (one : Found). Contains (numbers ++ number ∷ []) one.number) so_far.found (last ∷ [])
@@ -121,13 +121,13 @@ module _ (image : Image) (numbers : List ℕ) (whole : List HeadFrame) (strays :
       judged_more n last (inr stray) = inr stray
 
   pub scanned_stray : IsFirstBody image number None → IsScanned image (numbers ++ number ∷ []) whole (strays ++ number ∷ [])
-  scanned_stray stray = record {
+  scanned_stray (bytes, stands, none) = record {
     found = so_far.found;
     whole_is = so_far.whole_is;
     stand = so_far.stand;
     rise = so_far.rise;
     among_numbers = all_then (λ (one : Found). Contains numbers one.number) (λ (one : Found). Contains (numbers ++ number ∷ []) one.number) so_far.found (λ one. grown one.number) so_far.among_numbers;
-    are_strays = all_append (λ (n : ℕ). IsStray image (log_name n)) strays (number ∷ []) so_far.are_strays (stray, tt);
+    are_strays = all_append (λ (n : ℕ). IsStray image (log_name n)) strays (number ∷ []) so_far.are_strays ((number, bytes, refl, stands, none), tt);
     strays_rise = rising_more strays number so_far.strays_rise (all_then (Contains numbers) (λ (n : ℕ). n < number) strays less so_far.strays_among);
     strays_among = all_append (Contains (numbers ++ number ∷ [])) strays (number ∷ []) (all_then (Contains numbers) (Contains (numbers ++ number ∷ [])) strays grown so_far.strays_among) (last_in numbers number, tt);
     each = λ n has. ⊎_elim
@@ -209,9 +209,10 @@ greatest_last (first ∷ rest) newest rise is =
           omega (arith, at, is, get_or_default (first ∷ rest) k number 0 within, ap (λ (i : ℕ). get_or (first ∷ rest) i 0) here)
     ]
 
-pub greatest_is : (numbers items : List ℕ) (newest : ℕ) → items ≡ numbers → IsStrictlyIncreasing numbers → newest ≡ unwrap_or (slice_get items (length items - 1)) 0 → IsGreatest numbers newest
-greatest_is numbers items newest same rise is =
-    subst (λ (list : List ℕ). IsGreatest list newest) same (greatest_last items newest (subst IsStrictlyIncreasing (sym same) rise) (is ∙ unwrap_or-slice_get items (length items - 1) 0))
+pub greatest_is : (numbers items : List ℕ) (newest : ℕ) (copied last : Option ℕ) → items ≡ numbers → IsStrictlyIncreasing numbers → newest ≡ unwrap_or copied 0 → copied ≡ last → last ≡ slice_get items (length items - 1) → IsGreatest numbers newest
+greatest_is numbers items newest copied last same rise is copy last_is =
+    subst (λ (list : List ℕ). IsGreatest list newest) same (greatest_last items newest (subst IsStrictlyIncreasing (sym same) rise)
+    (is ∙ ap (λ (o : Option ℕ). unwrap_or o 0) (copy ∙ last_is) ∙ unwrap_or-slice_get items (length items - 1) 0))
 
 -- each is at most the greatest
 pub among_below : (numbers : List ℕ) (newest : ℕ) (whole : List HeadFrame) → IsGreatest numbers newest → AreAmong numbers whole → AllByRecursion (λ (frame : HeadFrame). frame.number ≤ newest) whole

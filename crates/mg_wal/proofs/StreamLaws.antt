@@ -1,6 +1,6 @@
 -- What one log after another gives, and for what they are refused.
 use Rattle.std.proofs.Common.{◌≡◌, IsSome, Result, Err, ℕ, ◌+◌, ◌-◌, ◌*◌, ◌<◌, ◌≤◌, ◌^◌, ◌⊎◌, inl, inr, List, [], ◌∷◌, ◌++◌, length, map, drop, get_or, Option, None, Some, refl, sym, ap, subst, ◌∙◌, arith, append_assoc}
-use Rattle.std.proofs.lemmas.List.{append-nil, drop_at, length-append}
+use Rattle.std.proofs.lemmas.List.{append-nil, drop_at, length-append, take-append-drop}
 use Rattle.std.specs.Prelude.{IfSome, slice_get}
 use Rattle.std.specs.Result.{IsErrOf}
 use Rattle.mg_disk.specs.Images.{Image, Stays, View}
@@ -24,7 +24,7 @@ use Rattle.mg_wal_format.proofs.SpellingLaws.{length-head_bytes}
 use Rattle.mg_wal.specs.declared.known.KnownLog.{KnownLog}
 use Rattle.mg_wal.specs.Findings.{AreKnown, AreReady, IsRefusal, StandIn}
 use Rattle.mg_wal.specs.Openings.{log_known}
-use Rattle.mg_wal.specs.Streams.{AreOf, AreSound, BeginAt, GoesOn, HasWorn, IsJoinFault}
+use Rattle.mg_wal.specs.Streams.{head_end, AreSound, BeginAt, GoesOn, HasWorn, IsJoinFault, IsWindow, StandsAs}
 use Rattle.mg_wal.proofs.CountLaws.{counts_after-same, BeginsWith-same, Gives-same, InOrder-same, Same}
 use Rattle.mg_wal.proofs.ReadLaws.{cause_behind}
 
@@ -42,8 +42,10 @@ IsRecordFault-same parts log counts others number limit fault same is =
       body_fits = is.body_fits;
       why = elim is.why [
         | inl worn ↦ inl worn
-        | inr refused ↦ inr (refused.0,
-            IsRecordRefused-same (log_file log.number) (offset_behind log is.recs) parts (counts_after counts is.recs) (counts_after others is.recs) is.body fault (counts_after-same counts others is.recs same) refused.1)
+        | inr refused ↦ inr (
+          refused.0,
+          IsRecordRefused-same (log_file log.number) (offset_behind log is.recs) parts (counts_after counts is.recs) (counts_after others is.recs) is.body fault (counts_after-same counts others is.recs same) refused.1,
+        )
       ];
     }
 
@@ -120,6 +122,18 @@ goes_all parts counts number logs recs goes = subst (λ (l : List Rec). Gives pa
 
 -- ---- one log
 
+-- the bytes are those of this log
+pub record AreOf (bytes : List ℕ) (known : KnownLog) (log : Log) : Type 0 where
+  pub known_as : log_known log ≡ known
+  pub spelled : bytes ≡ log_bytes (found_of log)
+
+-- those of a log that stands in an image
+pub are_of : (image : Image) (known : KnownLog) (log : Log) → StandsAs image known log → AreOf (log_bytes (found_of log)) known log
+are_of image known log stands = record { known_as = stands.0; spelled = refl }
+
+pub end_exact : (known : KnownLog) (len : ℕ) → 31 + 8 * parts_of known.head ≤ len → head_end known len ≡ 31 + 8 * parts_of known.head
+end_exact known len enough = omega (arith, enough)
+
 -- the bytes at this offset are those behind the log's head
 record IsBehind (bytes : List ℕ) (at : ℕ) (log : Log) : Type 0 where
   at_is : at ≡ length (frame log.number (head_bytes log.head))
@@ -151,10 +165,11 @@ below_limit (Some first) number most is below = omega (arith, is, below)
 
 -- a whole frame whose body is no next record
 record_refused : (parts : ℕ) (counts : Counts) (number most : ℕ) (bytes : List ℕ) (at : ℕ) (log : Log) (file : FileId) (limit : Option ℕ) (fault : Fault) → IsBehind bytes at log → file ≡ log_file log.number
-    → most ≤ 2 ^ 62 → IfSome limit (λ (first : ℕ). first ≡ most) → IsLogRefused file parts counts number most bytes at fault → IsRecordFault parts log counts number limit fault
+    → most ≤ 2 ^ 62 → IfSome limit (λ (first : ℕ). first ≡ most) → IsLogRefused file 0 parts counts number most bytes at fault → IsRecordFault parts log counts number limit fault
 record_refused parts counts number most bytes at log file limit fault behind named kept is refused =
     let r = refused.refused in
     let begins = begins_at parts counts number bytes at log refused.recs refused.stop behind refused.records in
+    let none_more : 0 + refused.stop ≡ refused.stop = omega arith in
     record {
       recs = refused.recs;
       body = r.body;
@@ -162,9 +177,12 @@ record_refused parts counts number most bytes at log file limit fault behind nam
       begins = subst (λ (l : List ℕ). BeginsWith parts counts number log.rest refused.recs l) r.spelled begins;
       below = below_limit limit (number + length refused.recs) most is refused.below;
       body_fits = r.body_fits;
-      why = inr (omega (arith, kept, refused.below),
+      why = inr (
+        omega (arith, kept, refused.below),
         subst (λ (n : ℕ). IsRecordRefused (log_file log.number) n parts (counts_after counts refused.recs) r.body fault) (offset_is parts counts number bytes at log refused.recs refused.stop behind refused.records)
-        (subst (λ (f : FileId). IsRecordRefused f refused.stop parts (counts_after counts refused.recs) r.body fault) named r.why));
+            (subst (λ (f : FileId). IsRecordRefused f refused.stop parts (counts_after counts refused.recs) r.body fault) named
+            (subst (λ (n : ℕ). IsRecordRefused file n parts (counts_after counts refused.recs) r.body fault) none_more r.why)),
+      );
     }
 
 -- want of memory is no refusal
@@ -174,26 +192,28 @@ if_refused fault A B (inr a) step is = step a
 
 -- the records of the newest log are refused
 pub last_refused : (parts : ℕ) (counts : Counts) (number : ℕ) (bytes : List ℕ) (at : ℕ) (known : KnownLog) (log : Log) (file : FileId) (fault : Fault) → AreOf bytes known log
-    → (31 + 8 * parts_of known.head ≤ length bytes → at ≡ 31 + 8 * parts_of known.head) → file ≡ log_file known.number → IsLogRefused file parts counts number (2 ^ 62) bytes at fault
+    → (31 + 8 * parts_of known.head ≤ length bytes → at ≡ 31 + 8 * parts_of known.head) → file ≡ log_file known.number → IsLogRefused file 0 parts counts number (2 ^ 62) bytes at fault
     → IsStreamFault parts counts number (log ∷ []) fault
 last_refused parts counts number bytes at known log file fault are exact named refused =
     record_refused parts counts number (2 ^ 62) bytes at log file None fault (behind_head bytes known log at are exact) (file_is bytes known log file are named) (omega arith) tt refused
 
 -- behind all records that a file may keep stands one more
-pub last_worn : (parts : ℕ) (counts : Counts) (number : ℕ) (bytes : List ℕ) (at : ℕ) (known : KnownLog) (log : Log) (file : FileId) (recs : List Rec) (stop : ℕ) (fault : Fault) → AreOf bytes known log
+pub last_worn : (parts : ℕ) (counts : Counts) (number : ℕ) (bytes : List ℕ) (at : ℕ) (known : KnownLog) (log : Log) (file : FileId) (recs : List Rec) (stop : ℕ) (window : List ℕ) (fault : Fault) → AreOf bytes known log
     → (31 + 8 * parts_of known.head ≤ length bytes → at ≡ 31 + 8 * parts_of known.head) → file ≡ log_file known.number → HasRecords parts counts number bytes at recs stop → number + length recs ≡ 2 ^ 62
-    → HasWorn file bytes stop fault → IsStreamFault parts counts number (log ∷ []) fault
-last_worn parts counts number bytes at known log file recs stop fault are exact named has reached worn =
+    → IsWindow bytes stop (2 ^ 62) window → HasWorn file stop window fault → IsStreamFault parts counts number (log ∷ []) fault
+last_worn parts counts number bytes at known log file recs stop window fault are exact named has reached w worn =
     let behind = behind_head bytes known log at are exact in
-    let spelled : drop stop bytes ≡ frame (number + length recs) worn.body ++ worn.rest = worn.spelled ∙ ap (λ (n : ℕ). frame n worn.body ++ worn.rest) (sym reached) in
+    let tail = drop w.count (drop stop bytes) in
+    let spelled : drop stop bytes ≡ frame (number + length recs) worn.body ++ (worn.rest ++ tail) = sym (take-append-drop w.count (drop stop bytes)) ∙ ap (λ (l : List ℕ). l ++ tail) (sym w.front ∙ worn.spelled)
+    ∙ append_assoc (frame (2 ^ 62) worn.body) worn.rest tail ∙ ap (λ (n : ℕ). frame n worn.body ++ (worn.rest ++ tail)) (sym reached) in
     let fault_is : fault ≡ too_great (log_file log.number) (offset_behind log recs) (number + length recs) =
-      worn.named ∙ ap (λ (f : FileId). too_great f stop (2 ^ 62)) (file_is bytes known log file are named)
-      ∙ ap (λ (n : ℕ). too_great (log_file log.number) n (2 ^ 62)) (offset_is parts counts number bytes at log recs stop behind has)
-      ∙ ap (λ (n : ℕ). too_great (log_file log.number) (offset_behind log recs) n) (sym reached) in
+    worn.named ∙ ap (λ (f : FileId). too_great f stop (2 ^ 62)) (file_is bytes known log file are named)
+    ∙ ap (λ (n : ℕ). too_great (log_file log.number) n (2 ^ 62)) (offset_is parts counts number bytes at log recs stop behind has)
+    ∙ ap (λ (n : ℕ). too_great (log_file log.number) (offset_behind log recs) n) (sym reached) in
     record {
       recs = recs;
       body = worn.body;
-      rest = worn.rest;
+      rest = worn.rest ++ tail;
       begins = subst (λ (l : List ℕ). BeginsWith parts counts number log.rest recs l) spelled (begins_at parts counts number bytes at log recs stop behind has);
       below = tt;
       body_fits = worn.body_fits;
@@ -219,7 +239,7 @@ last_goes parts counts number bytes at known log recs stop are exact has ends =
 -- the records of a log before the newest are refused
 pub before_refused : (parts : ℕ) (counts : Counts) (number : ℕ) (bytes : List ℕ) (at : ℕ) (known next : KnownLog) (log follower : Log) (others : List Log) (file : FileId) (fault : Fault) → AreOf bytes known log
     → log_known follower ≡ next → (31 + 8 * parts_of known.head ≤ length bytes → at ≡ 31 + 8 * parts_of known.head) → file ≡ log_file known.number → next.head.first < 2 ^ 62
-    → IsLogRefused file parts counts number next.head.first bytes at fault → IsStreamFault parts counts number (log ∷ follower ∷ others) fault
+    → IsLogRefused file 0 parts counts number next.head.first bytes at fault → IsStreamFault parts counts number (log ∷ follower ∷ others) fault
 before_refused parts counts number bytes at known next log follower others file fault are follows exact named kept refused =
     inl (record_refused parts counts number next.head.first bytes at log file (Some follower.head.first) fault (behind_head bytes known log at are exact) (file_is bytes known log file are named) (omega (arith, kept))
     (ap (λ (k : KnownLog). k.head.first) follows) refused)
@@ -402,13 +422,9 @@ leads image known others left behind is are stand =
       stand = all.1;
     }
 
-some_same : {X : Type 0} (x y : X) (found : Option X) → found ≡ Some x → found ≡ Some y → x ≡ y
-some_same x y found is other = cc
-
--- what was read of the first of them
-pub leads_are : (old now : Image) (known : KnownLog) (others : List KnownLog) (behind : List Log) (bytes : List ℕ) → now ≡ old → (l : Leads old known others behind) → now (log_name known.number) ≡ Some bytes → AreOf bytes known l.log
-leads_are old now known others behind bytes same l read =
-    record { known_as = l.known_as; spelled = some_same bytes (log_bytes (found_of l.log)) (now (log_name known.number)) read (ap (λ (image : Image). image (log_name known.number)) same ∙ l.bytes) }
+-- it stands there
+pub leads_stands : (image : Image) (known : KnownLog) (others : List KnownLog) (behind : List Log) (l : Leads image known others behind) → StandsAs image known l.log
+leads_stands image known others behind l = (l.known_as, l.bytes)
 
 is_some : {X : Type 0} (found : Option X) (x : X) → found ≡ Some x → IsSome found
 is_some found x is = subst IsSome (sym is) refl

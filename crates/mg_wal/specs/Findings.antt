@@ -4,7 +4,7 @@ use Rattle.std.specs.List.{AllByRecursion, Contains}
 use Rattle.mg_disk.specs.declared.errors.DiskError.{DiskError}
 use Rattle.mg_disk.specs.declared.errors.DiskError.TheVariants as disk
 use Rattle.mg_disk.specs.Images.{Image}
-use Rattle.mg_frame.specs.Frame.{frame, said_length}
+use Rattle.mg_frame.specs.Frame.{frame, said_length, NoFrame}
 use Rattle.mg_types.specs.declared.faults.Fault.{Fault}
 use Rattle.mg_types.specs.declared.faults.Fault.TheVariants.{Damaged, FewerParts, Malformed, NoMemory, ReadFault}
 use Rattle.mg_wal_format.specs.Logs.{Log}
@@ -40,15 +40,27 @@ AreRising (n ∷ m ∷ ns) = (n < m) × AreRising (m ∷ ns)
 abbrev pub AreNumbers : Image → List ℕ → Type 0
 AreNumbers image numbers = (number : ℕ) → Contains numbers number ↔ IsSome (image (log_name number))
 
--- how many bytes the first frame of the log of this number has by its header, where the log has so many; else the log is a stray
-abbrev pub IsFirstSize : Image → ℕ → Option ℕ → Type 0
-IsFirstSize image number None = IsStray image (log_name number)
-IsFirstSize image number (Some size) = (bytes : List ℕ) × (image (log_name number) ≡ Some bytes) × (size ≡ said_length bytes + 20) × (size ≤ length bytes)
+-- how many bytes the frame has that these bytes begin with, by its header, where there are so many; else no frame of this number begins there
+abbrev pub IsSize : ℕ → List ℕ → Option ℕ → Type 0
+IsSize number bytes None = NoFrame number bytes
+IsSize number bytes (Some size) = (size ≡ said_length bytes + 20) × (size ≤ length bytes)
 
--- the body of the whole frame of its number that the log begins with; without one the log is a stray
+-- the body of the whole frame of this number that these bytes begin with; else no frame of this number begins there
+abbrev pub IsBody : ℕ → List ℕ → Option (List ℕ) → Type 0
+IsBody number bytes None = NoFrame number bytes
+IsBody number bytes (Some body) = (rest : List ℕ) × (length body < 2 ^ 32) × (bytes ≡ frame number body ++ rest)
+
+-- the log of this number stands, and what is said of its bytes
+abbrev pub HasLog : Image → ℕ → (List ℕ → Type 0) → Type 0
+HasLog image number Said = (bytes : List ℕ) × (image (log_name number) ≡ Some bytes) × Said bytes
+
+-- how many bytes the first frame of a log has by its header, where the log has so many
+abbrev pub IsFirstSize : Image → ℕ → Option ℕ → Type 0
+IsFirstSize image number size = HasLog image number (λ bytes. IsSize number bytes size)
+
+-- the body of a log's first frame, where that is whole and has the log's number
 abbrev pub IsFirstBody : Image → ℕ → Option (List ℕ) → Type 0
-IsFirstBody image number None = IsStray image (log_name number)
-IsFirstBody image number (Some body) = (rest : List ℕ) × (length body < 2 ^ 32) × (image (log_name number) ≡ Some (frame number body ++ rest))
+IsFirstBody image number body = HasLog image number (λ bytes. IsBody number bytes body)
 
 -- these are the logs of the image, those that count and the strays, and the greatest of their numbers
 pub record HasFound (image : Image) (logs : FoundLogs) : Type 0 where

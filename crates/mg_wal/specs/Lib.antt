@@ -11,3 +11,4 @@ pub mod Strays
 pub mod Streams
 pub mod Syncs
 pub mod Times
+pub mod Shares

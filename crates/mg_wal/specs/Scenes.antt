@@ -10,6 +10,7 @@ use Rattle.mg_wal_format.specs.Chains.{IsFor}
 use Rattle.mg_wal_format.specs.Heads.{parts_of, IsSoundHead}
 use Rattle.mg_wal_format.specs.Logs.{counts_after, InOrder, Log}
 use Rattle.mg_wal_format.specs.Records.{Counts, counts_in}
+use Rattle.mg_wal_format.specs.Opening.{BeginsBehind}
 use Rattle.mg_wal_format.specs.Recovery.{end_of, first_of, log_name, low_of, ByNoChance, Opens}
 use Rattle.mg_wal_format.specs.Torn.{plan_entries, Plan}
 use Rattle.mg_wal.specs.declared.known.KnownLog.{KnownLog}
@@ -180,6 +181,11 @@ pub record LeavesPrefix (basis : Basis) (released : List ℕ) (list : List Entry
   pub gone : (part : ℕ) → low_of logs part ≤ get_or released part 0
   pub reaches : reach ≤ end_of logs recs
   pub named : AllByRecursion (λ log. (log.number ≤ basis.newest) ⊎ (parts_of log.head ≡ length basis.low)) logs
+
+-- of an image that opens so, each log begins behind a front of all records, and its head gives the number and the counts there
+abbrev pub HeadsCountLaw : Type 0
+HeadsCountLaw = (basis : Basis) (released : List ℕ) (list : List Entry) (reach : ℕ) (image : Image) (prefix : LeavesPrefix basis released list reach image)
+    → AllByRecursion (λ log. BeginsBehind (counts_in basis.low) basis.first (all_recs basis list) log) prefix.logs
 
 -- each image that a crash at this moment may leave opens to a front of the list that has every sure record, unless a frame of it is whole by chance
 abbrev pub SceneOpensLaw : Type 0

@@ -4,7 +4,9 @@ use Rattle.std.specs.List.{AllByRecursion, Contains}
 use Rattle.mg_disk.specs.Images.{Image, View}
 use Rattle.mg_disk.specs.Moments.{EachImage, LeavesOnly}
 use Rattle.mg_types.specs.declared.names.Name.{Name}
-use Rattle.mg_wal_format.specs.Recovery.{log_name, IsLess, IsStray}
+use Rattle.mg_wal_format.specs.declared.record.Rec.{Rec}
+use Rattle.mg_wal_format.specs.Logs.{Log}
+use Rattle.mg_wal_format.specs.Recovery.{log_name, IsLess, IsStray, Opens}
 use Rattle.mg_wal.specs.Book.{Book, Entry}
 use Rattle.mg_wal.specs.Findings.{AreRising}
 use Rattle.mg_wal.specs.Lists.{Basis}
@@ -28,3 +30,11 @@ KeepsEachReach old new = (basis : Basis) (list : List Entry) (time reach : ℕ) 
 -- where each image was the given one without some strays, it still is, and was so at each moment
 abbrev pub KeepsLess : View → View → Type 0
 KeepsLess old new = (image : Image) → EachImage old (IsLess image) → LeavesOnly old new (IsLess image) × EachImage new (IsLess image)
+
+-- the image opens for so many partitions, and has a log that is a stray
+pub record OpensWithStray (parts : ℕ) (image : Image) : Type 0 where
+  pub logs : List Log
+  pub recs : List Rec
+  pub opens : Opens parts image logs recs
+  pub number : ℕ
+  pub stray : IsStray image (log_name number)

@@ -1,12 +1,12 @@
 //! The logs of a volume, and the first frame of each.
 
-ghost use Rattle.std.specs.Prelude.{◌≡◌, ◌≤◌, ◌⊎◌, IfOk, IfErr, IsSome, IsTrue};
+ghost use Rattle.std.specs.Prelude.{◌≡◌, ◌≤◌, ◌⊎◌, ℕ, List, length, take, IfOk, IfErr, IsSome, IsTrue};
 ghost use Rattle.std.specs.List.{AllByRecursion};
 ghost use Rattle.std.specs.List.Sorted.{IsStrictlyIncreasing};
 ghost use Rattle.mg_disk.specs.Images.{Stays};
 ghost use Rattle.mg_faults.specs.Causes.{HasCause};
 ghost use Rattle.mg_wal_format.specs.Recovery.{log_name};
-ghost use Rattle.mg_wal.specs.Findings.{AreNumbers, HasFound, IsFirstBody, IsFirstSize};
+ghost use Rattle.mg_wal.specs.Findings.{AreNumbers, HasFound, IsBody, IsFirstBody, IsFirstSize, IsSize};
 
 use crate::devices::read_fault;
 use crate::pieces::read_piece;
@@ -14,7 +14,7 @@ use mg_disk::{Kind, Name, Volume, numbers};
 use mg_frame::{FRAME_HEADER, Taken, take_frame};
 use mg_items::Items;
 use mg_types::Fault;
-use std::alloc::Global;
+use std::alloc::{AllocError, Global};
 
 /// A log whose first frame is whole, with that frame's body.
 #[derive(Debug, Drop)]
@@ -94,7 +94,15 @@ fn read_first<V: Volume>(
         number,
     };
     let frame = read_piece(alloc, vol, name, 0, size)?;
-    let Taken::Whole { start, end, .. } = take_frame(&frame, 0, number) else {
+    let body = body_of(alloc, &frame, number)?;
+    Ok(body)
+}
+
+/// The body of the frame of this number, where that is whole.
+fn body_of(alloc: Global, frame: &[u8], number: u64) -> Result<Option<Items<u8>>, AllocError>
+    ensures { IfOk result (λ body. IsBody number frame.now body) }
+{
+    let Taken::Whole { start, end, .. } = take_frame(frame, 0, number) else {
         return Ok(None);
     };
     let body = Items::from_slice(alloc, &frame[start..end])?;
@@ -115,12 +123,19 @@ fn first_size<V: Volume>(alloc: Global, vol: &mut V, number: u64) -> Result<Opti
     };
     let len = vol.log_len(alloc, name).map_err(read_fault)?;
     let header = read_piece(alloc, vol, name, 0, FRAME_HEADER)?;
-    let Taken::Short { want, .. } = take_frame(&header, 0, number) else {
-        return Ok(None);
+    Ok(size_by(&header, len, number))
+}
+
+/// How many bytes the frame with this header has, where there are so many. Of fewer bytes than a header has, all are given.
+fn size_by(header: &[u8], len: u64, number: u64) -> Option<usize>
+    ensures { (bytes : List ℕ) → len ≡ length bytes → header.now ≡ take 12 bytes → IsSize number bytes result }
+{
+    let Taken::Short { want, .. } = take_frame(header, 0, number) else {
+        return None;
     };
     if want <= len {
-        Ok(Some(want as usize))
+        Some(want as usize)
     } else {
-        Ok(None)
+        None
     }
 }

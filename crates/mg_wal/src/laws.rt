@@ -6,7 +6,7 @@ ghost use Rattle.mg_wal_format.specs.Recovery.{ByNoChance};
 ghost use Rattle.mg_wal.specs.Book.{Book, Entry};
 ghost use Rattle.mg_wal.specs.Lists.{Basis};
 ghost use Rattle.mg_wal.specs.Openings.{IsFound, IsFresh};
-ghost use Rattle.mg_wal.specs.Scenes.{LeavesPrefix, SceneOpensLaw};
+ghost use Rattle.mg_wal.specs.Scenes.{HeadsCountLaw, LeavesPrefix, SceneOpensLaw};
 ghost use Rattle.mg_wal.specs.Stories.{Reaches};
 
 use mg_disk::Volume;
@@ -25,6 +25,12 @@ pub const fn every_image_opens<V: Volume>()
         → Reaches basis list time reach book (V.view volume)
         → (image : Image) → (V.view volume).left_since time image → ByNoChance image (V.view volume).written
         → LeavesPrefix basis book.released list reach image }
+{}
+
+/// Of an image that opens to a front of the list, each head gives the number of its first record, and per partition how many
+/// changes the whole list has before that.
+pub const fn heads_count()
+    ensures { HeadsCountLaw }
 {}
 
 /// From this moment on, all that is synced is sure.

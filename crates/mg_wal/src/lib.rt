@@ -6,15 +6,20 @@
 
 mod devices;
 mod finding;
+#[cfg(test)]
+mod fixtures;
 mod frames;
 mod heads;
 mod known;
 pub mod laws;
 mod ledger;
+mod named;
 mod pieces;
 mod reading;
 mod receipt;
 mod recovery;
+#[cfg(test)]
+mod recovery_tests;
 mod state;
 mod strays;
 mod stream;
@@ -22,6 +27,7 @@ mod stream;
 mod tests;
 
 pub use known::KnownLog;
+pub use named::{LogNames, NamedState, Wal, push_one, share};
 pub use receipt::Receipt;
 pub use recovery::{RecoverError, recover};
 pub use state::WalState;

@@ -43,6 +43,8 @@ pub(crate) fn read_volume<V: Volume>(
     ensures parts { IfOk result (λ read. length read.0.low.items ≡ parts) }
     ensures stands { IfOk result (λ read. Books (opened_basis read.0) [] (ledger_book read.0.ledger)) }
     ensures writing { IfOk result (λ read. read.0.ledger.writing ≡ None) }
+    ensures staged { IfOk result (λ read. read.0.ledger.staged ≡ None) }
+    ensures released { IfOk result (λ read. read.0.ledger.released.items ≡ read.0.low.items) }
     ensures opens { IsTrue V.tells → IfOk result (λ read. OpensAs (V.view vol.old).contents (opened_basis read.0) (ledger_book read.0.ledger)) }
     ensures strays { IsTrue V.tells → IfOk result (λ read. AreStrays (V.view vol.old).contents read.1.items) }
     ensures refused { IsTrue V.tells → IfErr result (λ fault. IsRefusal fault → IsRefused parts (V.view vol.old).contents fault) }
@@ -110,6 +112,8 @@ fn fresh_state(
     ensures reached { IfOk result (λ opened. (logs : List Log) → AreKnown known.items logs → opened.ledger.reach ≡ end_of logs opened.records.items) }
     ensures newest { IfOk result (λ opened. opened.ledger.newest ≡ newest) }
     ensures writing { IfOk result (λ opened. opened.ledger.writing ≡ None) }
+    ensures staged { IfOk result (λ opened. opened.ledger.staged ≡ None) }
+    ensures released { IfOk result (λ opened. opened.ledger.released.items ≡ opened.low.items) }
 {
     let last = number_before(&known) + stream.records.len() as u64;
     let reach = number_behind(&known, last);

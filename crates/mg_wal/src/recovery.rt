@@ -11,6 +11,7 @@ ghost use Rattle.mg_wal.specs.Lists.{Books};
 ghost use Rattle.mg_wal.specs.Openings.{basis_for, OpensAs};
 ghost use Rattle.mg_wal.specs.States.{book_of, ledger_book, opened_basis, volume_of};
 ghost use Rattle.mg_wal.specs.Stories.{Reaches};
+ghost use Rattle.mg_wal.specs.Strays.{OpensWithStray};
 
 use crate::reading::{Opened, read_volume};
 use crate::state::WalState;
@@ -30,8 +31,9 @@ pub struct RecoverError<V> {
 }
 
 /// Opens a volume for so many partitions: the state, the records that its logs have, and for each partition how many changes it
-/// had before the first of them. Logs without a whole head are removed, once all others are judged. A volume without a log opens
-/// with none, and no log is made. Each log is read whole, one after the other; only its records are kept.
+/// had before the first of them. Logs that do not begin with the whole frame of their own number are removed, once all others are
+/// judged. A volume without a log opens with none, and no log is made. Logs are read one after the other, in pieces of 64 KiB or of
+/// one frame, whichever is more.
 pub fn recover<V: Volume>(
     alloc: Global,
     mut vol: V,
@@ -39,6 +41,7 @@ pub fn recover<V: Volume>(
 ) -> Result<(WalState<V>, Vec<Rec>, Vec<u64>), RecoverError<V>>
     requires { IsTrue V.tells → Settled (V.view vol) (V.in_writing vol) }
     ensures parts { IfOk result (λ found. length found.2.items ≡ parts) }
+    ensures fresh { IfOk result (λ found. ((book_of found.0).staged ≡ None) × ((book_of found.0).writing ≡ None) × ((book_of found.0).released ≡ found.2.items)) }
     ensures stands { IfOk result (λ found. Books (basis_for (book_of found.0) found.1.items found.2.items) [] (book_of found.0)) }
     ensures opens { IsTrue V.tells → IfOk result (λ found.
         OpensAs (V.view vol).contents (basis_for (book_of found.0) found.1.items found.2.items) (book_of found.0)) }
@@ -47,19 +50,23 @@ pub fn recover<V: Volume>(
     ensures cleared { IsTrue V.tells → IfOk result (λ found. Clears (V.view vol).contents (V.view (volume_of found.0)).contents) }
     ensures kinds { IfErr result (λ e. (e.fault ≡ NoMemory) ⊎ (e.fault ≡ ReadFault) ⊎ (e.fault ≡ WriteFault) ⊎ IsRefusal e.fault) }
     ensures refused { IsTrue V.tells → IfErr result (λ e. IsRefusal e.fault → IsRefused parts (V.view vol).contents e.fault) }
-    ensures untouched { IsTrue V.tells → IfErr result (λ e. IsRefusal e.fault
+    ensures untouched { IsTrue V.tells → IfErr result (λ e. IsRefusal e.fault ⊎ (e.fault ≡ ReadFault)
         → LeavesOnly (V.view vol) (V.view e.vol) (λ image. image ≡ (V.view vol).contents)) }
     ensures back { IsTrue V.tells → IfErr result (λ e. LeavesOnly (V.view vol) (V.view e.vol) (IsLess (V.view vol).contents)) }
+    ensures wrote { IsTrue V.tells → IfErr result (λ e. e.fault ≡ WriteFault → OpensWithStray parts (V.view vol).contents) }
+    ensures left { IsTrue V.tells → IfOk result (λ found. LeavesOnly (V.view vol) (V.view (volume_of found.0)) (IsLess (V.view vol).contents)) }
     ensures later { IfOk result (λ found. V.faults vol ≤ V.faults (volume_of found.0)) }
     ensures cause { IfErr result (λ e. (V.faults vol ≤ V.faults e.vol)
         × ((e.fault ≡ ReadFault) ⊎ (e.fault ≡ WriteFault) → Rose (V.faults vol) (V.faults e.vol))) }
 {
     match open(alloc, &mut vol, parts) {
-        Ok(Opened {
-            ledger,
-            records,
-            low,
-        }) => {
+        Ok(
+            Opened {
+                ledger,
+                records,
+                low,
+            },
+        ) => {
             let state = WalState {
                 vol,
                 ledger,
@@ -77,15 +84,18 @@ fn open<V: Volume>(alloc: Global, vol: &mut V, parts: u16) -> Result<Opened, Fau
     ensures parts { IfOk result (λ opened. length opened.low.items ≡ parts) }
     ensures stands { IfOk result (λ opened. Books (opened_basis opened) [] (ledger_book opened.ledger)) }
     ensures writing { IfOk result (λ opened. opened.ledger.writing ≡ None) }
+    ensures staged { IfOk result (λ opened. opened.ledger.staged ≡ None) }
+    ensures released { IfOk result (λ opened. opened.ledger.released.items ≡ opened.low.items) }
     ensures opens { IsTrue V.tells → IfOk result (λ opened. OpensAs (V.view vol.old).contents (opened_basis opened) (ledger_book opened.ledger)) }
     ensures since { IsTrue V.tells → IfOk result (λ opened. Reaches (opened_basis opened) [] (V.view vol.old).moment
         opened.ledger.reach (ledger_book opened.ledger) (V.view vol.new)) }
     ensures cleared { IsTrue V.tells → IfOk result (λ opened. Clears (V.view vol.old).contents (V.view vol.new).contents) }
     ensures kinds { IfErr result (λ fault. (fault ≡ NoMemory) ⊎ (fault ≡ ReadFault) ⊎ (fault ≡ WriteFault) ⊎ IsRefusal fault) }
     ensures refused { IsTrue V.tells → IfErr result (λ fault. IsRefusal fault → IsRefused parts (V.view vol.old).contents fault) }
-    ensures untouched { IsTrue V.tells → IfErr result (λ fault. IsRefusal fault
+    ensures untouched { IsTrue V.tells → IfErr result (λ fault. IsRefusal fault ⊎ (fault ≡ ReadFault)
         → LeavesOnly (V.view vol.old) (V.view vol.new) (λ image. image ≡ (V.view vol.old).contents)) }
-    ensures back { IsTrue V.tells → IfErr result (λ fault. LeavesOnly (V.view vol.old) (V.view vol.new) (IsLess (V.view vol.old).contents)) }
+    ensures wrote { IsTrue V.tells → IfErr result (λ fault. fault ≡ WriteFault → OpensWithStray parts (V.view vol.old).contents) }
+    ensures back { IsTrue V.tells → LeavesOnly (V.view vol.old) (V.view vol.new) (IsLess (V.view vol.old).contents) }
     ensures later { V.faults vol.old ≤ V.faults vol.new }
     ensures cause { IfErr result (λ fault. (fault ≡ ReadFault) ⊎ (fault ≡ WriteFault) → Rose (V.faults vol.old) (V.faults vol.new)) }
 {

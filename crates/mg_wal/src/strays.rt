@@ -1,6 +1,6 @@
 //! The removal of logs that do not count.
 
-ghost use Rattle.std.specs.Prelude.{◌≡◌, IfErr, OnOk, IsTrue};
+ghost use Rattle.std.specs.Prelude.{◌≡◌, ◌≤◌, length, IfErr, OnOk, IsTrue};
 ghost use Rattle.mg_faults.specs.Causes.{HasCause};
 ghost use Rattle.mg_wal.specs.Strays.{AreStrays, KeepsEachReach, KeepsLess, Removes};
 ghost use Rattle.mg_wal.specs.Syncs.{IsUnwritten};
@@ -20,6 +20,7 @@ pub(crate) fn remove_strays<V: Volume>(
     ensures gone { IsTrue V.tells → OnOk result (Removes strays.now (V.view vol.old).contents (V.view vol.new).contents) }
     ensures reaches { IsTrue V.tells → KeepsEachReach (V.view vol.old) (V.view vol.new) }
     ensures less { IsTrue V.tells → KeepsLess (V.view vol.old) (V.view vol.new) }
+    ensures some { IfErr result (λ _. 1 ≤ length strays.now) }
     ensures outside { IfErr result (λ fault. IsUnwritten fault) }
     ensures cause { HasCause Fault.WriteFault (V.faults vol.old) (V.faults vol.new) result }
 {

@@ -1,68 +1,41 @@
-ghost use Rattle.std.specs.Prelude.{◌≡◌, ◌<◌, ◌^◌, ℕ, None, IfOk, IfSome, IsSome, OnOk, IsTrue};
-ghost use Rattle.std.specs.List.{All};
+ghost use Rattle.std.specs.Prelude.{◌≡◌, ◌<◌, ◌^◌, IfOk, IfSome, IsSome, OnOk};
 ghost use Rattle.mg_wal_format.specs.Records.{mark_of};
-ghost use Rattle.mg_wal_format.specs.Recovery.{log_name};
 ghost use Rattle.mg_wal.specs.Book.{parts_in};
 ghost use Rattle.mg_wal.specs.States.{book_of};
 
-use crate::frames::Frames;
-use crate::ledger::Ledger;
+use crate::fixtures::{frames, has_log, opened, set, volume_with};
 use crate::receipt::Receipt;
 use crate::state::WalState;
 use mg_disk::{Kind, Name, Volume};
 use mg_frame::put_frame;
 use mg_memdisk::MemVolume;
 use mg_model::Change;
-use mg_types::{Doc, Fault, Key};
+use mg_types::Fault;
 use std::alloc::Global;
 use std::test::Fail;
 
-/// A state of three partitions that had so many changes, of a list with so many records.
-fn state_of(alloc: Global, last: u64, counts: [u64; 3]) -> Result<WalState<MemVolume>, Fail>
-    requires last { last < 2 ^ 62 }
-    requires counts { All (λ count. count < 2 ^ 62) counts }
+/// The state of a volume of three partitions.
+fn state_in(alloc: Global, vol: MemVolume) -> Result<WalState<MemVolume>, Fail>
     ensures parts { IfOk result (λ state. parts_in (book_of state) ≡ 3) }
 {
-    state_over(alloc, MemVolume::new(alloc, Vec::new(alloc)), last, counts)
+    let (state, _, _) = opened(alloc, vol, 3)?;
+    Ok(state)
 }
 
-/// A state of three partitions without a change, over a volume whose call of this number fails.
-fn state_of_failing(alloc: Global, call: u64) -> Result<WalState<MemVolume>, Fail>
+/// The state of a volume without a log. Its calls with these numbers fail, of which the opening makes the first.
+fn state_of_failing(alloc: Global, failing: &[u64]) -> Result<WalState<MemVolume>, Fail>
     ensures parts { IfOk result (λ state. parts_in (book_of state) ≡ 3) }
 {
-    let failing = vec![in alloc; call]?;
-    state_over(alloc, MemVolume::new(alloc, failing), 0, [0, 0, 0])
+    state_in(alloc, volume_with(alloc, failing, &[])?)
 }
 
-/// The same, over a volume that has no log.
-fn state_over<V: Volume>(
-    alloc: Global,
-    vol: V,
-    last: u64,
-    counts: [u64; 3],
-) -> Result<WalState<V>, Fail>
-    requires none { IsTrue V.tells → (number : ℕ) → (V.view vol).contents (log_name number) ≡ None }
-    requires last { last < 2 ^ 62 }
-    requires counts { All (λ count. count < 2 ^ 62) counts }
+/// The state of a volume whose one log is only this head.
+fn state_behind(alloc: Global, head: &[u8]) -> Result<WalState<MemVolume>, Fail>
     ensures parts { IfOk result (λ state. parts_in (book_of state) ≡ 3) }
 {
-    Ok(WalState {
-        vol,
-        ledger: Ledger {
-            last,
-            reach: 0,
-            counts: Vec::from_slice(alloc, &counts)?,
-            synced: vec![in alloc; 0u64, 0, 0]?,
-            released: vec![in alloc; 0u64, 0, 0]?,
-            staged: None,
-            frames: Frames::new(alloc),
-            writing: None,
-            newest: 0,
-            anchor: 0,
-            logs: Vec::new(alloc),
-        },
-        log: None,
-    })
+    let log = frames(alloc, &[(1, head)])?;
+    let logs = vec![in alloc; (1, log)]?;
+    state_in(alloc, volume_with(alloc, &[], &logs)?)
 }
 
 /// Reserves a record, in a state that keeps its partitions.
@@ -73,15 +46,6 @@ fn stage(state: &mut WalState<MemVolume>, part: u16, what: &Change) -> Result<()
     ensures staged { OnOk result (IsSome (book_of state.new).staged) }
 {
     state.reserve(part, what)
-}
-
-fn set(alloc: Global, key: &[u8], doc: &[u8]) -> Result<Change, Fail>
-    ensures { IfOk result (λ change. mark_of change ≡ None) }
-{
-    Ok(Change::Set {
-        key: Key::new(alloc, key)?.ok_or("no key")?,
-        doc: Doc::new(alloc, doc)?.ok_or("no document")?,
-    })
 }
 
 /// Whether what waits is the frames of these bodies, numbered from `first` on.
@@ -106,7 +70,12 @@ fn waits(
 #[test]
 fn pushed_records_wait_in_their_order(rt: HostRuntime) -> Result<(), Fail> {
     let alloc = rt.alloc();
-    let mut state = state_of(alloc, 0, [0, 2, 0])?;
+    // behind two changes of the second partition
+    let mut state = state_behind(
+        alloc,
+        b"\x01\0\0\0\0\0\0\0\x01\0\x03\
+        \0\0\0\0\0\0\0\0\0\0\0\0\0\0\0\x02\0\0\0\0\0\0\0\0",
+    )?;
     assert!(rt; state.last() == 0);
     stage(&mut state, 0, &set(alloc, b"a", b"x")?)?;
     assert!(rt; waits(alloc, &state, 1, &[])?);
@@ -128,7 +97,12 @@ fn pushed_records_wait_in_their_order(rt: HostRuntime) -> Result<(), Fail> {
 #[test]
 fn a_record_that_was_not_pushed_is_replaced(rt: HostRuntime) -> Result<(), Fail> {
     let alloc = rt.alloc();
-    let mut state = state_of(alloc, 6, [0, 2, 0])?;
+    // behind six records, of which two are of the second partition
+    let mut state = state_behind(
+        alloc,
+        b"\x01\0\0\0\0\0\0\0\x07\0\x03\
+        \0\0\0\0\0\0\0\0\0\0\0\0\0\0\0\x02\0\0\0\0\0\0\0\0",
+    )?;
     stage(&mut state, 0, &set(alloc, b"abc", b"a long document")?)?;
     stage(&mut state, 1, &Change::Forget { mark: 258 })?;
     assert!(rt; waits(alloc, &state, 7, &[])?);
@@ -142,9 +116,12 @@ fn a_record_that_was_not_pushed_is_replaced(rt: HostRuntime) -> Result<(), Fail>
 fn a_worn_number_is_told(rt: HostRuntime) -> Result<(), Fail> {
     let alloc = rt.alloc();
     let most = (1 << 62) - 1;
-    let mut state = state_of(alloc, most, [0, most, 0])?;
-    assert!(rt; stage(&mut state, 0, &Change::Mark) == Err(Fault::Worn { kept: most }));
-    let mut state = state_of(alloc, most - 1, [0, most, 0])?;
+    // the next record has the last number, and the second partition has had as many changes
+    let mut state = state_behind(
+        alloc,
+        b"\x01\x3f\xff\xff\xff\xff\xff\xff\xff\0\x03\
+        \0\0\0\0\0\0\0\0\x3f\xff\xff\xff\xff\xff\xff\xff\0\0\0\0\0\0\0\0",
+    )?;
     assert!(rt; stage(&mut state, 1, &Change::Mark) == Err(Fault::Worn { kept: most }));
     stage(&mut state, 0, &Change::Mark)?;
     assert!(rt; state.push() == most);
@@ -164,36 +141,10 @@ const MARK: &[u8] = b"\0\0\0\0\0\0\0\0\0\x01\x03";
 /// A clear of partition 1, its first change.
 const CLEAR: &[u8] = b"\0\x01\0\0\0\0\0\0\0\x01\x06";
 
-/// The frames of these numbers and bodies.
-fn frames(alloc: Global, entries: &[(u64, &[u8])]) -> Result<Vec<u8>, Fail> {
-    let mut bytes = Vec::new(alloc);
-    for (number, body) in entries {
-        if body.len() < 1000 {
-            put_frame(*number, body, &mut bytes)?;
-        }
-    }
-    Ok(bytes)
-}
-
-/// Whether the volume has a log of this number, of these bytes.
-fn has_log<V: Volume>(alloc: Global, vol: &mut V, number: u64, want: &[u8]) -> Result<bool, Fail> {
-    let name = Name {
-        kind: Kind::Wal,
-        number,
-    };
-    if !vol.names(alloc)?.contains(&name) {
-        return Ok(false);
-    }
-    let mut buf = Vec::new(alloc);
-    buf.resize(1000, 0u8)?;
-    let count = vol.read_log(alloc, name, 0, &mut buf)?;
-    Ok(&buf[..count] == want)
-}
-
 #[test]
 fn a_sync_writes_what_waits(rt: HostRuntime) -> Result<(), Fail> {
     let alloc = rt.alloc();
-    let mut state = state_of(alloc, 0, [0, 0, 0])?;
+    let mut state = state_of_failing(alloc, &[])?;
     stage(&mut state, 0, &Change::Mark)?;
     state.push();
     let receipt = state.sync(alloc, 0)?;
@@ -215,8 +166,8 @@ fn a_sync_writes_what_waits(rt: HostRuntime) -> Result<(), Fail> {
 #[test]
 fn a_failed_log_is_not_written_again(rt: HostRuntime) -> Result<(), Fail> {
     let alloc = rt.alloc();
-    // a log is made, appended to and synced by three calls
-    let mut state = state_of_failing(alloc, 2)?;
+    // the opening asks for the names; a log is made, appended to and synced by three calls
+    let mut state = state_of_failing(alloc, &[3])?;
     stage(&mut state, 0, &Change::Mark)?;
     state.push();
     assert!(rt; state.sync(alloc, 0) == Err(Fault::WriteFault));
@@ -240,7 +191,7 @@ fn synced_behind(
     alloc: Global,
     failing: u64,
 ) -> Result<(Result<Receipt, Fault>, Result<Receipt, Fault>, MemVolume), Fail> {
-    let mut state = state_of_failing(alloc, failing)?;
+    let mut state = state_of_failing(alloc, &[failing])?;
     stage(&mut state, 0, &Change::Mark)?;
     state.push();
     let first = state.sync(alloc, 0);
@@ -274,13 +225,13 @@ fn after_each_failed_call_a_log_is_begun(rt: HostRuntime) -> Result<(), Fail> {
     let failed = Err(Fault::WriteFault);
     let all = [(2, HEAD), (1, MARK), (2, CLEAR)].as_slice();
     let rest = [(2, NEXT_HEAD), (2, CLEAR)].as_slice();
-    // a log is made, appended to and synced, and then appended to and synced once more
+    // the opening asks for the names; a log is made, appended to and synced, and then appended to and synced once more
     let cases = [
-        (1, failed, Ok(BOTH), all),
         (2, failed, Ok(BOTH), all),
         (3, failed, Ok(BOTH), all),
-        (4, Ok(ONE), failed, rest),
+        (4, failed, Ok(BOTH), all),
         (5, Ok(ONE), failed, rest),
+        (6, Ok(ONE), failed, rest),
     ];
     for (failing, first, second, log) in &cases {
         let (one, two, mut vol) = synced_behind(alloc, *failing)?;
@@ -293,12 +244,11 @@ fn after_each_failed_call_a_log_is_begun(rt: HostRuntime) -> Result<(), Fail> {
 }
 
 /// A state of two logs: the first has a change of partition 0, the second begins behind it with one of partition 1. The volume's
-/// calls were three for the first log, an append that failed, and three for the second log.
-fn state_of_two_logs(alloc: Global, failing: Vec<u64>) -> Result<WalState<MemVolume>, Fail>
+/// calls were one for its names, three for the first log, an append that failed, and three for the second log.
+fn state_of_two_logs(alloc: Global, failing: &[u64]) -> Result<WalState<MemVolume>, Fail>
     ensures parts { IfOk result (λ state. parts_in (book_of state) ≡ 3) }
 {
-    let vol = MemVolume::new(alloc, failing);
-    let mut state = state_over(alloc, vol, 0, [0, 0, 0])?;
+    let mut state = state_of_failing(alloc, failing)?;
     stage(&mut state, 0, &Change::Mark)?;
     state.push();
     state.sync(alloc, 0)?;
@@ -354,7 +304,7 @@ fn a_log_goes_once_all_before_the_next_is_released(rt: HostRuntime) -> Result<()
         (0, 1, [false, true, false]),
     ];
     for (part, change, logs) in &cases {
-        let mut state = state_of_two_logs(alloc, vec![in alloc; 4u64]?)?;
+        let mut state = state_of_two_logs(alloc, &[5])?;
         if *part < 3 {
             release(alloc, &mut state, *part, *change)?;
         }
@@ -367,8 +317,7 @@ fn a_log_goes_once_all_before_the_next_is_released(rt: HostRuntime) -> Result<()
 #[test]
 fn a_removal_that_failed_is_tried_at_the_next_release(rt: HostRuntime) -> Result<(), Fail> {
     let alloc = rt.alloc();
-    let failing = Vec::from_slice(alloc, &[4u64, 8])?;
-    let mut state = state_of_two_logs(alloc, failing)?;
+    let mut state = state_of_two_logs(alloc, &[5, 9])?;
     assert!(rt; release(alloc, &mut state, 0, 1) == Err(Fault::WriteFault));
     release(alloc, &mut state, 2, 0)?;
     let mut vol = state.into_volume();

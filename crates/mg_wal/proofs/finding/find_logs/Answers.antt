@@ -1,13 +1,17 @@
-use Rattle.std.proofs.Common.{◌≡◌, ◌-◌, ◌∙◌, ap, arith, Err, length, List, ℕ, Option, refl, subst, sym, []}
-use Rattle.std.specs.Prelude.{None, Some, slice_get, unwrap_or}
-use Rattle.std.specs.List.Sorted.{IsStrictlyIncreasing}
+use Rattle.std.proofs.Common.{◌≡◌, ◌++◌, ◌∷◌, ◌∙◌, Global, Vec, ap, arith, List, ℕ, refl, subst, sym, []}
 use Rattle.std.proofs.lemmas.Grind.{common_steps}
-use Rattle.mg_types.specs.declared.faults.Fault.TheVariants.{NoMemory}
 use Rattle.mg_wal.specs.Findings.{IsFirstBody}
 use Rattle.mg_wal.proofs.ReadLaws.{cause_on, memory_cause, ok_cause, stays_both}
 use Rattle.mg_wal.proofs.ScanLaws.{all_taken, among_below, among_more, among_next, greatest_is, scanned_all, scanned_none, stands_at, stray_more, whole_more, AreAmong, IsScanned}
 use Rattle.mg_wal.proofs.finding.find_logs.Goals.{in-Some+in_ok-push-in-Some, in-None+in_ok-push-in-None}
 use Rattle.mg_wal.proofs.finding.find_logs.Goals as goal
+
+-- the items of a list that is the same, and of one with an item more
+items_same : {X : Type 0} (after before : Vec X Global) → after ≡ before → after.items ≡ before.items
+items_same after before is = ap (λ v. v.items) is
+
+items_more : {X : Type 0} (after pushed : Vec X Global) (was : List X) (x : X) → after ≡ pushed → pushed.items ≡ was ++ x ∷ [] → after.items ≡ was ++ x ∷ []
+items_more after pushed was x is more = items_same after pushed is ∙ more
 
 pub loop-number-init : goal.loop-number-init
 loop-number-init g c = record {
@@ -53,16 +57,16 @@ loop-number-preserved g c =
         | in-Some+in_ok-push-in-Some w ↦
             whole_more image now c.in_ok-numbers.numbers.items items l.number-index c.deref-number-items.ensures.value c.in_ok-numbers.ensures.rise c.loop-number-test.true
             l.whole.items c.match-branch-3.whole.items l.strays.items c.match-branch-3.strays.items w.in-Some.body (l.invariant.stays tells).contents (l.invariant.scanned tells)
-            (subst (IsFirstBody now _) w.in-Some.is (c.in_ok-body.ensures.first tells)) (ap (λ v. v.items) w.whole-is ∙ w.in_ok-push-in-Some.ensures.items) (ap (λ v. v.items) w.strays-is)
+            (subst (IsFirstBody now _) w.in-Some.is (c.in_ok-body.ensures.first tells)) (items_more c.match-branch-3.whole _ l.whole.items _ w.whole-is w.in_ok-push-in-Some.ensures.items) (items_same c.match-branch-3.strays l.strays w.strays-is)
         | in-None+in_ok-push-in-None w ↦
             stray_more image now c.in_ok-numbers.numbers.items items l.number-index c.deref-number-items.ensures.value c.in_ok-numbers.ensures.rise c.loop-number-test.true
             l.whole.items c.match-branch-3.whole.items l.strays.items c.match-branch-3.strays.items (l.invariant.stays tells).contents (l.invariant.scanned tells)
-            (subst (IsFirstBody now _) w.in-None.is (c.in_ok-body.ensures.first tells)) (ap (λ v. v.items) w.whole-is) (ap (λ v. v.items) w.strays-is ∙ w.in_ok-push-in-None.ensures.items)
+            (subst (IsFirstBody now _) w.in-None.is (c.in_ok-body.ensures.first tells)) (items_same c.match-branch-3.whole l.whole w.whole-is) (items_more c.match-branch-3.strays _ l.strays.items _ w.strays-is w.in_ok-push-in-None.ensures.items)
       ];
       among = elim c.match-branch-3.branch [
         | in-Some+in_ok-push-in-Some w ↦
-            among_next items l.number-index l.whole.items c.match-branch-3.whole.items w.in-Some.body c.loop-number-test.true l.invariant.among (ap (λ v. v.items) w.whole-is ∙ w.in_ok-push-in-Some.ensures.items)
-        | in-None+in_ok-push-in-None w ↦ among_more items l.number-index l.whole.items c.match-branch-3.whole.items c.loop-number-test.true l.invariant.among (ap (λ v. v.items) w.whole-is)
+            among_next items l.number-index l.whole.items c.match-branch-3.whole.items w.in-Some.body c.loop-number-test.true l.invariant.among (items_more c.match-branch-3.whole _ l.whole.items _ w.whole-is w.in_ok-push-in-Some.ensures.items)
+        | in-None+in_ok-push-in-None w ↦ among_more items l.number-index l.whole.items c.match-branch-3.whole.items c.loop-number-test.true l.invariant.among (items_same c.match-branch-3.whole l.whole w.whole-is)
       ];
       stays = λ tells. stays_both _ (g.V.Volume.view l.vol) _ (g.met.V.Volume.counts_now tells c.args.vol.now) (l.invariant.stays tells) (c.read_first.ensures.stays tells);
       later = omega (arith, l.invariant.later, c.read_first.ensures.cause.later);
@@ -74,8 +78,7 @@ returns-clause-found g c tells =
     let numbers = c.in_ok-numbers.numbers.items in
     let taken = all_taken numbers c.deref-number-items.result.now l.number-index c.deref-number-items.ensures.value c.loop-number-test.false in
     scanned_all (g.V.Volume.view c.args.vol.now).contents numbers l.whole.items l.strays.items c.unwrap_or-newest.result (c.in_ok-numbers.ensures.all tells)
-    (greatest_is numbers c.deref.result.now c.unwrap_or-newest.result c.deref.ensures.value c.in_ok-numbers.ensures.rise
-    (c.unwrap_or-newest.ensures ∙ ap (λ (o : Option ℕ). unwrap_or o 0) (c.copied.ensures ∙ c.last.ensures.value)))
+    (greatest_is numbers c.deref.result.now c.unwrap_or-newest.result c.copied.result _ c.deref.ensures.value c.in_ok-numbers.ensures.rise c.unwrap_or-newest.ensures c.copied.ensures c.last.ensures.value)
     (subst (λ (list : List ℕ). IsScanned (g.V.Volume.view c.args.vol.now).contents list l.whole.items l.strays.items) taken (l.invariant.scanned tells)) _ refl refl refl
 
 pub returns-clause-below : goal.returns-clause-below
@@ -84,8 +87,7 @@ returns-clause-below g c =
     let numbers = c.in_ok-numbers.numbers.items in
     let taken = all_taken numbers c.deref-number-items.result.now l.number-index c.deref-number-items.ensures.value c.loop-number-test.false in
     among_below numbers c.unwrap_or-newest.result l.whole.items
-    (greatest_is numbers c.deref.result.now c.unwrap_or-newest.result c.deref.ensures.value c.in_ok-numbers.ensures.rise
-    (c.unwrap_or-newest.ensures ∙ ap (λ (o : Option ℕ). unwrap_or o 0) (c.copied.ensures ∙ c.last.ensures.value)))
+    (greatest_is numbers c.deref.result.now c.unwrap_or-newest.result c.copied.result _ c.deref.ensures.value c.in_ok-numbers.ensures.rise c.unwrap_or-newest.ensures c.copied.ensures c.last.ensures.value)
     (subst (λ (list : List ℕ). AreAmong list l.whole.items) taken l.invariant.among)
 
 pub returns-clause-stays : goal.returns-clause-stays

@@ -27,7 +27,7 @@ pub loop-number-preserved : goal.loop-number-preserved
 loop-number-preserved g c = (
   λ tells.
       removing_more c.args.strays.now c.loop-number.number-index _ (g.V.Volume.view c.args.vol.now) (g.V.Volume.view c.loop-number.vol) (g.V.Volume.view c.remove_log.new.vol) c.loop-number-test.true refl
-          (g.met.V.Volume.only_now tells c.loop-number.vol) (g.met.V.Volume.may_leave_contents tells c.loop-number.vol) (c.loop-number.invariant.0 tells) (c.in_ok-remove_log.ensures.gone tells),
+      (g.met.V.Volume.only_now tells c.loop-number.vol) (g.met.V.Volume.may_leave_contents tells c.loop-number.vol) (c.loop-number.invariant.0 tells) (c.in_ok-remove_log.ensures.gone tells),
   c.in_ok-remove_log.ensures.once.kept ∙ c.loop-number.invariant.1,
 )
 

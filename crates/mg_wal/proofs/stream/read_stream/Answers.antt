@@ -5,12 +5,12 @@ use Rattle.mg_types.specs.declared.faults.Fault.TheVariants.{NoMemory, ReadFault
 use Rattle.mg_wal_format.specs.declared.record.Rec.{Rec}
 use Rattle.mg_wal_format.specs.Logs.{counts_after, InOrder, Log}
 use Rattle.mg_wal_format.specs.Records.{counts_in}
-use Rattle.mg_wal_format.specs.Recovery.{first_of, low_of, IsStreamFault}
+use Rattle.mg_wal_format.specs.Recovery.{first_of, log_name, low_of, IsStreamFault}
 use Rattle.mg_wal_format.proofs.ReadingLaws.{err_is}
 use Rattle.mg_wal.specs.Findings.{AreKnown, IsRefusal, StandIn}
-use Rattle.mg_wal.specs.Streams.{AreOf, AreSound, BeginAt, GoesOn}
+use Rattle.mg_wal.specs.Streams.{AreSound, BeginAt, GoesOn, StandsAs}
 use Rattle.mg_wal.proofs.ReadLaws.{ok_cause, stays_both}
-use Rattle.mg_wal.proofs.StreamLaws.{begins_first, begins_more, cause_handed, counts_more, fault_read, goes_none, goes_read, leads, leads_are, leads_there, no_read_fault, order_more, sound_behind, stays_self, stream_gives, stream_refused}
+use Rattle.mg_wal.proofs.StreamLaws.{begins_first, begins_more, cause_handed, counts_more, fault_read, goes_none, goes_read, leads, leads_there, no_read_fault, order_more, sound_behind, stays_self, stream_gives, stream_refused}
 use Rattle.mg_wal.proofs.stream.read_stream.Goals as goal
 
 pub loop-log-init : goal.loop-log-init
@@ -27,66 +27,62 @@ loop-log-init g c =
       parts = ap length same;
       reaches = λ logs are. begins_first c.args.known.now logs c.new-records.result.items none are;
       stand = λ tells. c.requires.stand tells;
-      goes = λ tells logs are stand. (logs, are, stand,
-          subst (λ (recs : List Rec). GoesOn (length low) (counts_in low) (first_of logs) logs recs logs) (sym none) (goes_none (length low) (counts_in low) (first_of logs) logs));
+      goes = λ tells logs are stand. (
+        logs,
+        are,
+        stand,
+        subst (λ (recs : List Rec). GoesOn (length low) (counts_in low) (first_of logs) logs recs logs) (sym none) (goes_none (length low) (counts_in low) (first_of logs) logs),
+      );
       stays = λ tells. stays_self (g.V.Volume.view c.args.vol.now);
       later = omega arith;
     }
 
-pub read_bytes-requires : goal.read_bytes-requires
-read_bytes-requires g c tells =
+pub read_records-requires-clause-there : goal.read_records-requires-clause-there
+read_records-requires-clause-there g c tells =
     let i = c.loop-log.invariant in
     let s = i.stand tells in
     leads_there (g.V.Volume.view c.args.vol.now).contents (g.V.Volume.view c.loop-log.vol).contents c.in-Some.log.now c.in-Some.others.now s.0 (i.stays tells).contents
     (leads (g.V.Volume.view c.args.vol.now).contents c.in-Some.log.now c.in-Some.others.now c.loop-log.rest.now s.0 c.in-Some.ensures.cases.0 s.1 s.2)
 
-pub returns-in_err-bytes-clause-stays : goal.returns-in_err-bytes-clause-stays
-returns-in_err-bytes-clause-stays g c tells =
-    stays_both _ (g.V.Volume.view c.loop-log.vol) _ (g.met.V.Volume.counts_now tells c.args.vol.now) (c.loop-log.invariant.stays tells) (c.read_bytes.ensures.stays tells)
+pub read_records-requires-clause-sound : goal.read_records-requires-clause-sound
+read_records-requires-clause-sound g c = subst AreSound c.in-Some.ensures.cases.0 c.loop-log.invariant.ready
 
-pub returns-in_err-bytes-clause-cause : goal.returns-in_err-bytes-clause-cause
-returns-in_err-bytes-clause-cause g c =
-    cause_handed _ _ _ c.read_bytes.result c.from_residual-in_err-bytes.result c.in_err-bytes.field-0.0 c.loop-log.invariant.later c.in_err-bytes.was (grind (arith, common_steps)) c.read_bytes.ensures.cause
-
-pub read_records-requires : goal.read_records-requires
-read_records-requires g c = subst AreSound c.in-Some.ensures.cases.0 c.loop-log.invariant.ready
-
-pub returns-in_err-read-clause-refused : goal.returns-in_err-read-clause-refused
-returns-in_err-read-clause-refused g c tells =
+pub returns-in_err-part-clause-refused : goal.returns-in_err-part-clause-refused
+returns-in_err-part-clause-refused g c tells =
     let i = c.loop-log.invariant in
     let low = c.args.low.now in
     let image = (g.V.Volume.view c.args.vol.now).contents in
     let known = c.in-Some.log.now in
     let others = c.in-Some.others.now in
     let split = c.in-Some.ensures.cases.0 in
-    let fault = c.in_err-read.field-0.0 in
-    err_is c.from_residual-in_err-read.result fault
+    let fault = c.in_err-part.field-0.0 in
+    err_is c.from_residual-in_err-part.result fault
     (λ (f : Fault). IsRefusal f → (logs : List Log) → AreKnown c.args.known.now logs → StandIn image logs → IsStreamFault (length low) (low_of logs) (first_of logs) logs f) (grind (arith, common_steps))
     (λ refusal logs are stand.
     let left = i.goes tells logs are stand in
     let l = leads image known others c.loop-log.rest.now left.0 split left.1 left.2 in
-    let bytes = leads_are image (g.V.Volume.view c.loop-log.vol).contents known others left.0 c.in_ok-bytes.bytes.items (i.stays tells).contents l (c.in_ok-bytes.ensures.bytes tells) in
-    let is = c.in_err-read.ensures.refused l.log l.rest (subst (λ (b : List ℕ). AreOf b known l.log) (sym c.deref.ensures.value) bytes) l.others_are refusal in
+    let there : StandsAs (g.V.Volume.view c.loop-log.vol).contents known l.log = (l.known_as, ap (λ image. image (log_name known.number)) (i.stays tells).contents ∙ l.bytes) in
+    let is = c.in_err-part.ensures.refused tells l.log l.rest there l.others_are refusal in
     let reached : first_of logs + length c.loop-log.records.items ≡ known.head.first = subst (BeginAt (first_of logs + length c.loop-log.records.items)) split (i.reaches logs are) in
     stream_refused c.args.known.now low logs fault c.requires.ready are
     (fault_read low c.loop-log.counts.items (first_of logs) known.head.first logs c.loop-log.records.items left.0 fault i.counts i.parts reached left.3
     (subst (λ (ls : List Log). IsStreamFault (length c.loop-log.counts.items) (counts_in c.loop-log.counts.items) known.head.first ls fault) (sym l.split) is)))
 
-pub returns-in_err-read-clause-stays : goal.returns-in_err-read-clause-stays
-returns-in_err-read-clause-stays g c tells =
-    stays_both _ (g.V.Volume.view c.loop-log.vol) _ (g.met.V.Volume.counts_now tells c.args.vol.now) (c.loop-log.invariant.stays tells) (c.read_bytes.ensures.stays tells)
+pub returns-in_err-part-clause-stays : goal.returns-in_err-part-clause-stays
+returns-in_err-part-clause-stays g c tells =
+    stays_both _ (g.V.Volume.view c.loop-log.vol) _ (g.met.V.Volume.counts_now tells c.args.vol.now) (c.loop-log.invariant.stays tells) (c.read_records.ensures.stays tells)
 
-pub returns-in_err-read-clause-cause : goal.returns-in_err-read-clause-cause
-returns-in_err-read-clause-cause g c =
-    no_read_fault _ _ c.from_residual-in_err-read.result c.in_err-read.field-0.0 (omega (arith, c.loop-log.invariant.later, c.read_bytes.ensures.cause.later)) (grind (arith, common_steps)) c.in_err-read.ensures.kinds
+pub returns-in_err-part-clause-cause : goal.returns-in_err-part-clause-cause
+returns-in_err-part-clause-cause g c =
+    cause_handed _ _ _ c.read_records.result c.from_residual-in_err-part.result c.in_err-part.field-0.0 c.loop-log.invariant.later c.in_err-part.was (grind (arith, common_steps)) c.read_records.ensures.cause
 
 pub returns-in_err-append-clause-stays : goal.returns-in_err-append-clause-stays
 returns-in_err-append-clause-stays g c tells =
-    stays_both _ (g.V.Volume.view c.loop-log.vol) _ (g.met.V.Volume.counts_now tells c.args.vol.now) (c.loop-log.invariant.stays tells) (c.read_bytes.ensures.stays tells)
+    stays_both _ (g.V.Volume.view c.loop-log.vol) _ (g.met.V.Volume.counts_now tells c.args.vol.now) (c.loop-log.invariant.stays tells) (c.read_records.ensures.stays tells)
 
 pub returns-in_err-append-clause-cause : goal.returns-in_err-append-clause-cause
 returns-in_err-append-clause-cause g c =
-    no_read_fault _ _ c.from_residual-in_err-append.result NoMemory (omega (arith, c.loop-log.invariant.later, c.read_bytes.ensures.cause.later)) (grind (arith, common_steps)) (inl refl)
+    no_read_fault _ _ c.from_residual-in_err-append.result NoMemory (omega (arith, c.loop-log.invariant.later, c.read_records.ensures.cause.later)) (grind (arith, common_steps)) (inl refl)
 
 pub loop-log-smaller : goal.loop-log-smaller
 loop-log-smaller g c = omega (arith, ap length c.in-Some.ensures.cases.0)
@@ -101,33 +97,36 @@ loop-log-preserved g c =
     let split = c.in-Some.ensures.cases.0 in
     let recs = c.loop-log.records.items in
     let counts = c.loop-log.counts.items in
-    let read = c.in_ok-read.read in
-    let items : c.append.new.self.items ≡ recs ++ read.records = subst (λ (mine : List Rec). c.append.new.self.items ≡ recs ++ mine) c.into_vec.ensures c.in_ok-append.ensures.items in
+    let read = c.in_ok-part.part in
+    let items : c.append.new.self.items ≡ recs ++ read.records.items = c.in_ok-append.ensures.items in
     let reached : (logs : List Log) → AreKnown c.args.known.now logs → first_of logs + length recs ≡ known.head.first = λ logs are. subst (BeginAt (first_of logs + length recs)) split (i.reaches logs are) in
     record {
       ready = sound_behind known others (subst AreSound split i.ready);
       shorter = omega (arith, i.shorter, ap length split);
       none = λ empty. absurd (omega (arith, i.shorter, ap length split, ap length empty));
       order = λ logs are. subst (λ (l : List Rec). InOrder (length low) (counts_in low) (first_of logs) l) (sym items)
-          (order_more low counts (first_of logs) known.head.first recs read.records i.counts i.parts (reached logs are) (i.order logs are) c.in_ok-read.ensures.order);
-      counts = λ part. counts_more low counts read.counts.items recs read.records i.counts c.in_ok-read.ensures.counts part ∙ ap (λ (l : List Rec). counts_after (counts_in low) l part) (sym items);
-      parts = c.in_ok-read.ensures.parts ∙ i.parts;
+          (order_more low counts (first_of logs) known.head.first recs read.records.items i.counts i.parts (reached logs are) (i.order logs are) c.in_ok-part.ensures.order);
+      counts = λ part. counts_more low counts read.counts.items recs read.records.items i.counts c.in_ok-part.ensures.counts part ∙ ap (λ (l : List Rec). counts_after (counts_in low) l part) (sym items);
+      parts = c.in_ok-part.ensures.parts ∙ i.parts;
       reaches = λ logs are. subst (λ (l : List Rec). BeginAt (first_of logs + length l) others) (sym items)
-          (begins_more (first_of logs) known.head.first recs read.records others (reached logs are) c.in_ok-read.ensures.reaches);
+          (begins_more (first_of logs) known.head.first recs read.records.items others (reached logs are) c.in_ok-part.ensures.reaches);
       stand = λ tells.
           let s = i.stand tells in
           let l = leads image known others c.loop-log.rest.now s.0 split s.1 s.2 in (l.rest, l.others_are, l.stand);
       goes = λ tells logs are stand.
           let left = i.goes tells logs are stand in
           let l = leads image known others c.loop-log.rest.now left.0 split left.1 left.2 in
-          let bytes = leads_are image (g.V.Volume.view c.loop-log.vol).contents known others left.0 c.in_ok-bytes.bytes.items (i.stays tells).contents l (c.in_ok-bytes.ensures.bytes tells) in
-          let goes = c.in_ok-read.ensures.gives l.log l.rest (subst (λ (b : List ℕ). AreOf b known l.log) (sym c.deref.ensures.value) bytes) l.others_are in
-          (l.rest, l.others_are, l.stand,
+          let there : StandsAs (g.V.Volume.view c.loop-log.vol).contents known l.log = (l.known_as, ap (λ image. image (log_name known.number)) (i.stays tells).contents ∙ l.bytes) in
+          let goes = c.in_ok-part.ensures.gives tells l.log l.rest there l.others_are in (
+            l.rest,
+            l.others_are,
+            l.stand,
             subst (λ (mine : List Rec). GoesOn (length low) (counts_in low) (first_of logs) logs mine l.rest) (sym items)
-            (goes_read low counts (first_of logs) known.head.first logs recs left.0 read.records l.rest i.counts i.parts (reached logs are) left.3
-            (subst (λ (ls : List Log). GoesOn (length counts) (counts_in counts) known.head.first ls read.records l.rest) (sym l.split) goes)));
-      stays = λ tells. stays_both _ (g.V.Volume.view c.loop-log.vol) _ (g.met.V.Volume.counts_now tells c.args.vol.now) (i.stays tells) (c.read_bytes.ensures.stays tells);
-      later = omega (arith, i.later, c.read_bytes.ensures.cause.later);
+                (goes_read low counts (first_of logs) known.head.first logs recs left.0 read.records.items l.rest i.counts i.parts (reached logs are) left.3
+                (subst (λ (ls : List Log). GoesOn (length counts) (counts_in counts) known.head.first ls read.records.items l.rest) (sym l.split) goes)),
+          );
+      stays = λ tells. stays_both _ (g.V.Volume.view c.loop-log.vol) _ (g.met.V.Volume.counts_now tells c.args.vol.now) (i.stays tells) (c.read_records.ensures.stays tells);
+      later = omega (arith, i.later, c.read_records.ensures.cause.later);
     }
 
 pub returns-clause-order : goal.returns-clause-order
