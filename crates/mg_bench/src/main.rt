@@ -9,6 +9,7 @@ mod port;
 mod segment;
 mod table;
 mod turn;
+mod wal;
 
 use anyhow::{Context, Result, bail};
 use std::alloc::{AllocError, Global};
@@ -42,6 +43,10 @@ fn run<R: Threads + Wait + Sync>(
         "write_segment" => segment::write_segment(alloc, count, size)?,
         "get_from_segment" => segment::get_from_segment(alloc, count, size)?,
         "get_lent_from_segment" => segment::get_lent_from_segment(alloc, count, size)?,
+        "push_synced_each" => wal::push_synced_each(alloc, count, size)?,
+        "push_synced_by_thousand" => wal::push_synced_by_thousand(alloc, count, size)?,
+        "leave_log" => wal::leave_log(alloc, count, size)?,
+        "recover_log" => wal::recover_log(alloc, count, size)?,
         "turn_by_one" => turn::turn_by_one(rt, alloc, count)?,
         "turn_by_two" => turn::turn_by_two(rt, alloc, count)?,
         "turn_by_four" => turn::turn_by_four(rt, alloc, count)?,
@@ -71,6 +76,10 @@ fn main(rt: HostRuntime) -> Result<()> {
             "write_segment",
             "get_from_segment",
             "get_lent_from_segment",
+            "push_synced_each",
+            "push_synced_by_thousand",
+            "leave_log",
+            "recover_log",
             "turn_by_one",
             "turn_by_two",
             "turn_by_four",
