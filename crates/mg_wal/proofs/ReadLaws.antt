@@ -1,7 +1,7 @@
 -- Calls that read a volume, one after the other.
-use Rattle.std.proofs.Common.{◌≡◌, ◌∙◌, ◌≤◌, ⊎_elim, ap, arith, inl, inr, ℕ, Err, Ok, Result}
+use Rattle.std.proofs.Common.{◌≡◌, ◌∙◌, ◌≤◌, ⊎_elim, ap, arith, inl, inr, ℕ, Err, Ok, Result, subst}
 use Rattle.mg_disk.specs.Images.{Image, Stays, View}
-use Rattle.mg_faults.specs.Causes.{HasCause, Rose}
+use Rattle.mg_faults.specs.Causes.{last_count, raised, CountsOnce, HasCause, Rose}
 use Rattle.mg_types.specs.declared.faults.Fault.{Fault}
 use Rattle.mg_types.specs.declared.faults.Fault.TheVariants.{NoMemory, ReadFault}
 
@@ -54,3 +54,17 @@ cause_on {T} {U} {E} failure old mid new (Err e) (Err f) error later was is caus
 pub memory_cause : {T : Type 0} (old new : ℕ) (result : Result T Fault) → old ≤ new → result ≡ Err NoMemory → HasCause ReadFault old new result
 memory_cause old new (Ok x) later is = absurd (cc)
 memory_cause old new (Err e) later is = record { later = later; failed = λ failed. absurd (cc) }
+
+-- a count that stayed the same is not above its rise by one
+not_above : (before now : ℕ) → before ≤ last_count → now ≡ before → now ≤ raised before 1
+not_above before now bounded same = omega (arith, bounded, same)
+
+-- where the count stayed the same, each answer counts once
+pub once_same : {T E : Type 0} (before now : ℕ) (result : Result T E) → before ≤ last_count → now ≡ before → CountsOnce before now result
+once_same before now (Ok x) bounded same = record { kept = same; once = not_above before now bounded same }
+once_same before now (Err e) bounded same = record { kept = tt; once = not_above before now bounded same }
+
+-- an error that is handed on counts once behind calls that kept the count
+pub once_on : {T U E : Type 0} (before middle now : ℕ) (one : Result T E) (other : Result U E) (error : E) → middle ≡ before → one ≡ Err error → other ≡ Err error → CountsOnce middle now one → CountsOnce before now other
+once_on before middle now one (Ok y) error same was is once = absurd (cc)
+once_on before middle now one (Err f) error same was is once = record { kept = tt; once = subst (λ (n : ℕ). now ≤ raised n 1) same once.once }

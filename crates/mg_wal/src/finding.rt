@@ -4,7 +4,7 @@ ghost use Rattle.std.specs.Prelude.{◌≡◌, ◌≤◌, ◌⊎◌, ℕ, List, 
 ghost use Rattle.std.specs.List.{AllByRecursion};
 ghost use Rattle.std.specs.List.Sorted.{IsStrictlyIncreasing};
 ghost use Rattle.mg_disk.specs.Images.{Stays};
-ghost use Rattle.mg_faults.specs.Causes.{HasCause};
+ghost use Rattle.mg_faults.specs.Causes.{CountsOnce, HasCause};
 ghost use Rattle.mg_wal_format.specs.Recovery.{log_name};
 ghost use Rattle.mg_wal.specs.Findings.{AreNumbers, HasFound, IsBody, IsFirstBody, IsFirstSize, IsSize};
 
@@ -41,6 +41,7 @@ pub(crate) fn find_logs<V: Volume>(alloc: Global, vol: &mut V) -> Result<FoundLo
     ensures stays { IsTrue V.tells → Stays (V.view vol.old) (V.view vol.new) }
     ensures kinds { IfErr result (λ fault. (fault ≡ Fault.NoMemory) ⊎ (fault ≡ Fault.ReadFault)) }
     ensures cause { HasCause Fault.ReadFault (V.faults vol.old) (V.faults vol.new) result }
+    ensures once { CountsOnce (V.faults vol.old) (V.faults vol.new) result }
 {
     let numbers = log_numbers(alloc, vol)?;
     let newest = numbers.last().copied().unwrap_or(0);
@@ -67,6 +68,7 @@ fn log_numbers<V: Volume>(alloc: Global, vol: &mut V) -> Result<Vec<u64>, Fault>
     ensures stays { IsTrue V.tells → Stays (V.view vol.old) (V.view vol.new) }
     ensures kinds { IfErr result (λ fault. (fault ≡ Fault.NoMemory) ⊎ (fault ≡ Fault.ReadFault)) }
     ensures cause { HasCause Fault.ReadFault (V.faults vol.old) (V.faults vol.new) result }
+    ensures once { CountsOnce (V.faults vol.old) (V.faults vol.new) result }
 {
     let names = vol.names(alloc).map_err(read_fault)?;
     let mut numbers = numbers(alloc, &names, Kind::Wal)?;
@@ -85,6 +87,7 @@ fn read_first<V: Volume>(
     ensures stays { IsTrue V.tells → Stays (V.view vol.old) (V.view vol.new) }
     ensures kinds { IfErr result (λ fault. (fault ≡ Fault.NoMemory) ⊎ (fault ≡ Fault.ReadFault)) }
     ensures cause { HasCause Fault.ReadFault (V.faults vol.old) (V.faults vol.new) result }
+    ensures once { CountsOnce (V.faults vol.old) (V.faults vol.new) result }
 {
     let Some(size) = first_size(alloc, vol, number)? else {
         return Ok(None);
@@ -116,6 +119,7 @@ fn first_size<V: Volume>(alloc: Global, vol: &mut V, number: u64) -> Result<Opti
     ensures stays { IsTrue V.tells → Stays (V.view vol.old) (V.view vol.new) }
     ensures kinds { IfErr result (λ fault. (fault ≡ Fault.NoMemory) ⊎ (fault ≡ Fault.ReadFault)) }
     ensures cause { HasCause Fault.ReadFault (V.faults vol.old) (V.faults vol.new) result }
+    ensures once { CountsOnce (V.faults vol.old) (V.faults vol.new) result }
 {
     let name = Name {
         kind: Kind::Wal,

@@ -3,7 +3,7 @@
 ghost use Rattle.std.specs.Prelude.{◌≡◌, ◌+◌, ◌<◌, ◌≤◌, ◌-◌, ◌^◌, ◌⊎◌, ℕ, List, [], length, get_or, None, IfOk, IfErr, IsTrue};
 ghost use Rattle.std.specs.List.{AllByRecursion};
 ghost use Rattle.mg_disk.specs.Images.{Stays};
-ghost use Rattle.mg_faults.specs.Causes.{HasCause};
+ghost use Rattle.mg_faults.specs.Causes.{CountsOnce, HasCause};
 ghost use Rattle.mg_wal_format.specs.Logs.{counts_after, InOrder, Log};
 ghost use Rattle.mg_wal_format.specs.Records.{counts_in};
 ghost use Rattle.mg_wal_format.specs.Recovery.{end_of, first_of, last_number, IsRefused};
@@ -51,6 +51,7 @@ pub(crate) fn read_volume<V: Volume>(
     ensures stays { IsTrue V.tells → Stays (V.view vol.old) (V.view vol.new) }
     ensures kinds { IfErr result (λ fault. (fault ≡ Fault.NoMemory) ⊎ (fault ≡ Fault.ReadFault) ⊎ IsRefusal fault) }
     ensures cause { HasCause Fault.ReadFault (V.faults vol.old) (V.faults vol.new) result }
+    ensures once { CountsOnce (V.faults vol.old) (V.faults vol.new) result }
 {
     let found = find_logs(alloc, vol)?;
     let known = judge_heads(alloc, &found.whole, parts)?;

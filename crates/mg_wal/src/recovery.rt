@@ -3,7 +3,7 @@
 ghost use Rattle.std.specs.Prelude.{◌≡◌, ◌≤◌, ◌⊎◌, [], length, None, IfOk, IfErr, IsTrue};
 ghost use Rattle.mg_disk.specs.Images.{Settled};
 ghost use Rattle.mg_disk.specs.Moments.{LeavesOnly};
-ghost use Rattle.mg_faults.specs.Causes.{Rose};
+ghost use Rattle.mg_faults.specs.Causes.{raised, CountsOnce, Rose};
 ghost use Rattle.mg_types.specs.declared.faults.Fault.TheVariants.{NoMemory, ReadFault, WriteFault};
 ghost use Rattle.mg_wal_format.specs.Recovery.{Clears, IsLess, IsRefused};
 ghost use Rattle.mg_wal.specs.Findings.{IsRefusal};
@@ -55,7 +55,8 @@ pub fn recover<V: Volume>(
     ensures back { IsTrue V.tells → IfErr result (λ e. LeavesOnly (V.view vol) (V.view e.vol) (IsLess (V.view vol).contents)) }
     ensures wrote { IsTrue V.tells → IfErr result (λ e. e.fault ≡ WriteFault → OpensWithStray parts (V.view vol).contents) }
     ensures left { IsTrue V.tells → IfOk result (λ found. LeavesOnly (V.view vol) (V.view (volume_of found.0)) (IsLess (V.view vol).contents)) }
-    ensures later { IfOk result (λ found. V.faults vol ≤ V.faults (volume_of found.0)) }
+    ensures kept { IfOk result (λ found. V.faults (volume_of found.0) ≡ V.faults vol) }
+    ensures once { IfErr result (λ e. V.faults e.vol ≤ raised (V.faults vol) 1) }
     ensures cause { IfErr result (λ e. (V.faults vol ≤ V.faults e.vol)
         × ((e.fault ≡ ReadFault) ⊎ (e.fault ≡ WriteFault) → Rose (V.faults vol) (V.faults e.vol))) }
 {
@@ -97,6 +98,7 @@ fn open<V: Volume>(alloc: Global, vol: &mut V, parts: u16) -> Result<Opened, Fau
     ensures wrote { IsTrue V.tells → IfErr result (λ fault. fault ≡ WriteFault → OpensWithStray parts (V.view vol.old).contents) }
     ensures back { IsTrue V.tells → LeavesOnly (V.view vol.old) (V.view vol.new) (IsLess (V.view vol.old).contents) }
     ensures later { V.faults vol.old ≤ V.faults vol.new }
+    ensures once { CountsOnce (V.faults vol.old) (V.faults vol.new) result }
     ensures cause { IfErr result (λ fault. (fault ≡ ReadFault) ⊎ (fault ≡ WriteFault) → Rose (V.faults vol.old) (V.faults vol.new)) }
 {
     let (opened, strays) = read_volume(alloc, vol, parts)?;

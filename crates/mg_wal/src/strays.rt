@@ -1,7 +1,7 @@
 //! The removal of logs that do not count.
 
 ghost use Rattle.std.specs.Prelude.{◌≡◌, ◌≤◌, length, IfErr, OnOk, IsTrue};
-ghost use Rattle.mg_faults.specs.Causes.{HasCause};
+ghost use Rattle.mg_faults.specs.Causes.{CountsOnce, HasCause};
 ghost use Rattle.mg_wal.specs.Strays.{AreStrays, KeepsEachReach, KeepsLess, Removes};
 ghost use Rattle.mg_wal.specs.Syncs.{IsUnwritten};
 
@@ -23,6 +23,7 @@ pub(crate) fn remove_strays<V: Volume>(
     ensures some { IfErr result (λ _. 1 ≤ length strays.now) }
     ensures outside { IfErr result (λ fault. IsUnwritten fault) }
     ensures cause { HasCause Fault.WriteFault (V.faults vol.old) (V.faults vol.new) result }
+    ensures once { CountsOnce (V.faults vol.old) (V.faults vol.new) result }
 {
     for number in strays {
         remove_log(alloc, vol, *number)?;

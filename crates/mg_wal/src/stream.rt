@@ -2,7 +2,7 @@
 
 ghost use Rattle.std.specs.Prelude.{◌≡◌, ◌⊎◌, ◌+◌, ◌^◌, ◌≤◌, ◌<◌, ◌∷◌, [], ℕ, List, length, get_or, Some, IfOk, IfErr, OnOk, IsSome, IsTrue};
 ghost use Rattle.mg_disk.specs.Images.{Stays};
-ghost use Rattle.mg_faults.specs.Causes.{HasCause};
+ghost use Rattle.mg_faults.specs.Causes.{CountsOnce, HasCause};
 ghost use Rattle.mg_frame.specs.Frame.{NoFrame};
 ghost use Rattle.mg_wal_format.specs.Heads.{parts_of, IsSoundHead};
 ghost use Rattle.mg_wal_format.specs.Judging.{GivesUpTo, IsLogRefused};
@@ -82,6 +82,7 @@ fn read_window<V: Volume>(
     ensures stays { IsTrue V.tells → Stays (V.view vol.old) (V.view vol.new) }
     ensures kinds { IfErr result (λ fault. (fault ≡ Fault.NoMemory) ⊎ (fault ≡ Fault.ReadFault)) }
     ensures cause { HasCause Fault.ReadFault (V.faults vol.old) (V.faults vol.new) result }
+    ensures once { CountsOnce (V.faults vol.old) (V.faults vol.new) result }
 {
     let name = log_name(log);
     let left = len - at;
@@ -120,6 +121,7 @@ fn read_up_to<V: Volume>(
     ensures stays { IsTrue V.tells → Stays (V.view vol.old) (V.view vol.new) }
     ensures kinds { IfErr result (λ fault. (fault ≡ Fault.NoMemory) ⊎ (fault ≡ Fault.ReadFault) ⊎ IsRefusal fault) }
     ensures cause { HasCause Fault.ReadFault (V.faults vol.old) (V.faults vol.new) result }
+    ensures once { CountsOnce (V.faults vol.old) (V.faults vol.new) result }
 {
     let name = log_name(log.number);
     let file = log_file(log.number);
@@ -187,6 +189,7 @@ fn read_last<V: Volume>(
     ensures stays { IsTrue V.tells → Stays (V.view vol.old) (V.view vol.new) }
     ensures kinds { IfErr result (λ fault. (fault ≡ Fault.NoMemory) ⊎ (fault ≡ Fault.ReadFault) ⊎ IsRefusal fault) }
     ensures cause { HasCause Fault.ReadFault (V.faults vol.old) (V.faults vol.new) result }
+    ensures once { CountsOnce (V.faults vol.old) (V.faults vol.new) result }
 {
     let first = log.head.first;
     let part = read_up_to(alloc, vol, log, NUMBER_LIMIT, counts)?;
@@ -248,6 +251,7 @@ fn read_before<V: Volume>(
     ensures stays { IsTrue V.tells → Stays (V.view vol.old) (V.view vol.new) }
     ensures kinds { IfErr result (λ fault. (fault ≡ Fault.NoMemory) ⊎ (fault ≡ Fault.ReadFault) ⊎ IsRefusal fault) }
     ensures cause { HasCause Fault.ReadFault (V.faults vol.old) (V.faults vol.new) result }
+    ensures once { CountsOnce (V.faults vol.old) (V.faults vol.new) result }
 {
     let part = read_up_to(alloc, vol, log, next.head.first, counts)?;
     check_next(log, next, &part)?;
@@ -275,6 +279,7 @@ fn read_records<V: Volume>(
     ensures stays { IsTrue V.tells → Stays (V.view vol.old) (V.view vol.new) }
     ensures kinds { IfErr result (λ fault. (fault ≡ Fault.NoMemory) ⊎ (fault ≡ Fault.ReadFault) ⊎ IsRefusal fault) }
     ensures cause { HasCause Fault.ReadFault (V.faults vol.old) (V.faults vol.new) result }
+    ensures once { CountsOnce (V.faults vol.old) (V.faults vol.new) result }
 {
     match others.first() {
         Some(next) => read_before(alloc, vol, log, next, counts),
@@ -303,6 +308,7 @@ pub(crate) fn read_stream<V: Volume>(
     ensures stays { IsTrue V.tells → Stays (V.view vol.old) (V.view vol.new) }
     ensures kinds { IfErr result (λ fault. (fault ≡ Fault.NoMemory) ⊎ (fault ≡ Fault.ReadFault) ⊎ IsRefusal fault) }
     ensures cause { HasCause Fault.ReadFault (V.faults vol.old) (V.faults vol.new) result }
+    ensures once { CountsOnce (V.faults vol.old) (V.faults vol.new) result }
 {
     let mut records = Vec::new(alloc);
     let mut counts = low.to_vec(alloc)?;

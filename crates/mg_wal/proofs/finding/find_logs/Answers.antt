@@ -1,7 +1,7 @@
 use Rattle.std.proofs.Common.{◌≡◌, ◌++◌, ◌∷◌, ◌∙◌, Global, Vec, ap, arith, List, ℕ, refl, subst, sym, []}
 use Rattle.std.proofs.lemmas.Grind.{common_steps}
 use Rattle.mg_wal.specs.Findings.{IsFirstBody}
-use Rattle.mg_wal.proofs.ReadLaws.{cause_on, memory_cause, ok_cause, stays_both}
+use Rattle.mg_wal.proofs.ReadLaws.{cause_on, memory_cause, ok_cause, once_on, once_same, stays_both}
 use Rattle.mg_wal.proofs.ScanLaws.{all_taken, among_below, among_more, among_next, greatest_is, scanned_all, scanned_none, stands_at, stray_more, whole_more, AreAmong, IsScanned}
 use Rattle.mg_wal.proofs.finding.find_logs.Goals.{in-Some+in_ok-push-in-Some, in-None+in_ok-push-in-None}
 use Rattle.mg_wal.proofs.finding.find_logs.Goals as goal
@@ -18,7 +18,7 @@ loop-number-init g c = record {
   scanned = λ tells. rw (c.new-whole.ensures.items, c.new-strays.ensures.items) (scanned_none (g.V.Volume.view c.args.vol.now).contents);
   among = subst (AreAmong []) (sym c.new-whole.ensures.items) tt;
   stays = λ tells. c.log_numbers.ensures.stays tells;
-  later = c.log_numbers.ensures.cause.later;
+  same = c.in_ok-numbers.ensures.once.kept;
 }
 
 pub read_first-requires : goal.read_first-requires
@@ -32,19 +32,29 @@ returns-in_err-body-clause-stays g c tells = stays_both _ (g.V.Volume.view c.loo
 
 pub returns-in_err-body-clause-cause : goal.returns-in_err-body-clause-cause
 returns-in_err-body-clause-cause g c =
-    cause_on _ _ (g.V.Volume.faults c.loop-number.vol) _ c.read_first.result c.from_residual-in_err-body.result c.in_err-body.field-0.0 c.loop-number.invariant.later c.in_err-body.was (grind (arith, common_steps)) c.read_first.ensures.cause
+    cause_on _ _ (g.V.Volume.faults c.loop-number.vol) _ c.read_first.result c.from_residual-in_err-body.result c.in_err-body.field-0.0 (omega (arith, c.loop-number.invariant.same)) c.in_err-body.was (grind (arith, common_steps)) c.read_first.ensures.cause
+
+pub returns-in_err-body-clause-once : goal.returns-in_err-body-clause-once
+returns-in_err-body-clause-once g c =
+    once_on _ (g.V.Volume.faults c.loop-number.vol) _ c.read_first.result c.from_residual-in_err-body.result c.in_err-body.field-0.0 c.loop-number.invariant.same c.in_err-body.was (grind (arith, common_steps)) c.read_first.ensures.once
 
 pub returns-in_err-push-in-Some-clause-stays : goal.returns-in_err-push-in-Some-clause-stays
 returns-in_err-push-in-Some-clause-stays g c tells = stays_both _ (g.V.Volume.view c.loop-number.vol) _ (g.met.V.Volume.counts_now tells c.args.vol.now) (c.loop-number.invariant.stays tells) (c.read_first.ensures.stays tells)
 
 pub returns-in_err-push-in-Some-clause-cause : goal.returns-in_err-push-in-Some-clause-cause
-returns-in_err-push-in-Some-clause-cause g c = memory_cause _ _ c.from_residual-in_err-push-in-Some.result (omega (arith, c.loop-number.invariant.later, c.read_first.ensures.cause.later)) (grind (arith, common_steps))
+returns-in_err-push-in-Some-clause-cause g c = memory_cause _ _ c.from_residual-in_err-push-in-Some.result (omega (arith, c.loop-number.invariant.same, c.read_first.ensures.cause.later)) (grind (arith, common_steps))
+
+pub returns-in_err-push-in-Some-clause-once : goal.returns-in_err-push-in-Some-clause-once
+returns-in_err-push-in-Some-clause-once g c = once_same _ _ c.from_residual-in_err-push-in-Some.result (g.met.V.Volume.bounded c.args.vol.now) (c.in_ok-body.ensures.once.kept ∙ c.loop-number.invariant.same)
 
 pub returns-in_err-push-in-None-clause-stays : goal.returns-in_err-push-in-None-clause-stays
 returns-in_err-push-in-None-clause-stays g c tells = stays_both _ (g.V.Volume.view c.loop-number.vol) _ (g.met.V.Volume.counts_now tells c.args.vol.now) (c.loop-number.invariant.stays tells) (c.read_first.ensures.stays tells)
 
 pub returns-in_err-push-in-None-clause-cause : goal.returns-in_err-push-in-None-clause-cause
-returns-in_err-push-in-None-clause-cause g c = memory_cause _ _ c.from_residual-in_err-push-in-None.result (omega (arith, c.loop-number.invariant.later, c.read_first.ensures.cause.later)) (grind (arith, common_steps))
+returns-in_err-push-in-None-clause-cause g c = memory_cause _ _ c.from_residual-in_err-push-in-None.result (omega (arith, c.loop-number.invariant.same, c.read_first.ensures.cause.later)) (grind (arith, common_steps))
+
+pub returns-in_err-push-in-None-clause-once : goal.returns-in_err-push-in-None-clause-once
+returns-in_err-push-in-None-clause-once g c = once_same _ _ c.from_residual-in_err-push-in-None.result (g.met.V.Volume.bounded c.args.vol.now) (c.in_ok-body.ensures.once.kept ∙ c.loop-number.invariant.same)
 
 pub loop-number-preserved : goal.loop-number-preserved
 loop-number-preserved g c =
@@ -69,7 +79,7 @@ loop-number-preserved g c =
         | in-None+in_ok-push-in-None w ↦ among_more items l.number-index l.whole.items c.match-branch-3.whole.items c.loop-number-test.true l.invariant.among (items_same c.match-branch-3.whole l.whole w.whole-is)
       ];
       stays = λ tells. stays_both _ (g.V.Volume.view l.vol) _ (g.met.V.Volume.counts_now tells c.args.vol.now) (l.invariant.stays tells) (c.read_first.ensures.stays tells);
-      later = omega (arith, l.invariant.later, c.read_first.ensures.cause.later);
+      same = c.in_ok-body.ensures.once.kept ∙ l.invariant.same;
     }
 
 pub returns-clause-found : goal.returns-clause-found
@@ -94,4 +104,7 @@ pub returns-clause-stays : goal.returns-clause-stays
 returns-clause-stays g c tells = c.loop-number.invariant.stays tells
 
 pub returns-clause-cause : goal.returns-clause-cause
-returns-clause-cause g c = ok_cause _ _ _ _ c.loop-number.invariant.later
+returns-clause-cause g c = ok_cause _ _ _ _ (omega (arith, c.loop-number.invariant.same))
+
+pub returns-clause-once : goal.returns-clause-once
+returns-clause-once g c = once_same _ _ _ (g.met.V.Volume.bounded c.args.vol.now) c.loop-number.invariant.same

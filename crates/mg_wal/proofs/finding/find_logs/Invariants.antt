@@ -1,4 +1,4 @@
-use Rattle.std.proofs.Common.{◌≤◌, take}
+use Rattle.std.proofs.Common.{◌≡◌, take}
 use Rattle.std.specs.List.{AllByRecursion, Contains}
 use Rattle.std.specs.Prelude.{IsTrue}
 use Rattle.mg_disk.specs.Images.{Stays}
@@ -12,5 +12,5 @@ invariant-loop-number g l =
       scanned : IsTrue g.V.Volume.tells → IsScanned (g.V.Volume.view l.fn.vol).contents (take l.number-index l.number-items) l.whole.items l.strays.items;
       among : AllByRecursion (λ log. Contains (take l.number-index l.number-items) log.number) l.whole.items;
       stays : IsTrue g.V.Volume.tells → Stays (g.V.Volume.view l.fn.vol) (g.V.Volume.view l.vol);
-      later : g.V.Volume.faults l.fn.vol ≤ g.V.Volume.faults l.vol;
+      same : g.V.Volume.faults l.vol ≡ g.V.Volume.faults l.fn.vol;
     }

@@ -3,7 +3,7 @@ use Rattle.std.proofs.lemmas.Grind.{common_steps}
 use Rattle.std.proofs.lemmas.List.{take_all}
 use Rattle.mg_wal.specs.Strays.{Removes}
 use Rattle.mg_wal.proofs.ClearLaws.{removing_failed, removing_more, removing_none}
-use Rattle.mg_wal.proofs.RemoveLaws.{cause_more, no_cause}
+use Rattle.mg_wal.proofs.RemoveLaws.{cause_more, no_cause, no_fault, once_more}
 use Rattle.mg_wal.proofs.strays.remove_strays.Goals as goal
 
 pub loop-number-init : goal.loop-number-init
@@ -44,3 +44,10 @@ returns-clause-less g c tells = (c.loop-number.invariant.0 tells).less
 
 pub returns-clause-cause : goal.returns-clause-cause
 returns-clause-cause g c = no_cause _ _ c.loop-number.invariant.1
+
+pub returns-in_err-remove_log-clause-once : goal.returns-in_err-remove_log-clause-once
+returns-in_err-remove_log-clause-once g c =
+    once_more _ _ _ c.remove_log.result c.from_residual.result _ c.loop-number.invariant.1 c.in_err-remove_log.was (grind (arith, common_steps)) c.remove_log.ensures.once
+
+pub returns-clause-once : goal.returns-clause-once
+returns-clause-once g c = no_fault _ _ (g.met.V.Volume.bounded c.args.vol.now) c.loop-number.invariant.1

@@ -9,7 +9,7 @@ use Rattle.mg_wal_format.specs.Recovery.{first_of, log_name, low_of, IsStreamFau
 use Rattle.mg_wal_format.proofs.ReadingLaws.{err_is}
 use Rattle.mg_wal.specs.Findings.{AreKnown, IsRefusal, StandIn}
 use Rattle.mg_wal.specs.Streams.{AreSound, BeginAt, GoesOn, StandsAs}
-use Rattle.mg_wal.proofs.ReadLaws.{ok_cause, stays_both}
+use Rattle.mg_wal.proofs.ReadLaws.{ok_cause, once_on, once_same, stays_both}
 use Rattle.mg_wal.proofs.StreamLaws.{begins_first, begins_more, cause_handed, counts_more, fault_read, goes_none, goes_read, leads, leads_there, no_read_fault, order_more, sound_behind, stays_self, stream_gives, stream_refused}
 use Rattle.mg_wal.proofs.stream.read_stream.Goals as goal
 
@@ -34,7 +34,7 @@ loop-log-init g c =
         subst (λ (recs : List Rec). GoesOn (length low) (counts_in low) (first_of logs) logs recs logs) (sym none) (goes_none (length low) (counts_in low) (first_of logs) logs),
       );
       stays = λ tells. stays_self (g.V.Volume.view c.args.vol.now);
-      later = omega arith;
+      same = refl;
     }
 
 pub read_records-requires-clause-there : goal.read_records-requires-clause-there
@@ -74,7 +74,11 @@ returns-in_err-part-clause-stays g c tells =
 
 pub returns-in_err-part-clause-cause : goal.returns-in_err-part-clause-cause
 returns-in_err-part-clause-cause g c =
-    cause_handed _ _ _ c.read_records.result c.from_residual-in_err-part.result c.in_err-part.field-0.0 c.loop-log.invariant.later c.in_err-part.was (grind (arith, common_steps)) c.read_records.ensures.cause
+    cause_handed _ _ _ c.read_records.result c.from_residual-in_err-part.result c.in_err-part.field-0.0 (omega (arith, c.loop-log.invariant.same)) c.in_err-part.was (grind (arith, common_steps)) c.read_records.ensures.cause
+
+pub returns-in_err-part-clause-once : goal.returns-in_err-part-clause-once
+returns-in_err-part-clause-once g c =
+    once_on _ (g.V.Volume.faults c.loop-log.vol) _ c.read_records.result c.from_residual-in_err-part.result c.in_err-part.field-0.0 c.loop-log.invariant.same c.in_err-part.was (grind (arith, common_steps)) c.read_records.ensures.once
 
 pub returns-in_err-append-clause-stays : goal.returns-in_err-append-clause-stays
 returns-in_err-append-clause-stays g c tells =
@@ -82,7 +86,10 @@ returns-in_err-append-clause-stays g c tells =
 
 pub returns-in_err-append-clause-cause : goal.returns-in_err-append-clause-cause
 returns-in_err-append-clause-cause g c =
-    no_read_fault _ _ c.from_residual-in_err-append.result NoMemory (omega (arith, c.loop-log.invariant.later, c.read_records.ensures.cause.later)) (grind (arith, common_steps)) (inl refl)
+    no_read_fault _ _ c.from_residual-in_err-append.result NoMemory (omega (arith, c.loop-log.invariant.same, c.read_records.ensures.cause.later)) (grind (arith, common_steps)) (inl refl)
+
+pub returns-in_err-append-clause-once : goal.returns-in_err-append-clause-once
+returns-in_err-append-clause-once g c = once_same _ _ c.from_residual-in_err-append.result (g.met.V.Volume.bounded c.args.vol.now) (c.in_ok-part.ensures.once.kept ∙ c.loop-log.invariant.same)
 
 pub loop-log-smaller : goal.loop-log-smaller
 loop-log-smaller g c = omega (arith, ap length c.in-Some.ensures.cases.0)
@@ -126,7 +133,7 @@ loop-log-preserved g c =
                 (subst (λ (ls : List Log). GoesOn (length counts) (counts_in counts) known.head.first ls read.records.items l.rest) (sym l.split) goes)),
           );
       stays = λ tells. stays_both _ (g.V.Volume.view c.loop-log.vol) _ (g.met.V.Volume.counts_now tells c.args.vol.now) (i.stays tells) (c.read_records.ensures.stays tells);
-      later = omega (arith, i.later, c.read_records.ensures.cause.later);
+      same = c.in_ok-part.ensures.once.kept ∙ i.same;
     }
 
 pub returns-clause-order : goal.returns-clause-order
@@ -150,4 +157,7 @@ pub returns-clause-stays : goal.returns-clause-stays
 returns-clause-stays g c = c.loop-log.invariant.stays
 
 pub returns-clause-cause : goal.returns-clause-cause
-returns-clause-cause g c = ok_cause ReadFault _ _ _ c.loop-log.invariant.later
+returns-clause-cause g c = ok_cause ReadFault _ _ _ (omega (arith, c.loop-log.invariant.same))
+
+pub returns-clause-once : goal.returns-clause-once
+returns-clause-once g c = once_same _ _ _ (g.met.V.Volume.bounded c.args.vol.now) c.loop-log.invariant.same

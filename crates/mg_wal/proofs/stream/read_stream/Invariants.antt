@@ -23,7 +23,7 @@ invariant-loop-log g l =
           → (behind : List Log) × AreKnown l.rest behind × StandIn (g.V.Volume.view l.fn.vol).contents behind
           × GoesOn (length l.low) (counts_in l.low) (first_of logs) logs l.records.items behind;
       stays : IsTrue g.V.Volume.tells → Stays (g.V.Volume.view l.fn.vol) (g.V.Volume.view l.vol);
-      later : g.V.Volume.faults l.fn.vol ≤ g.V.Volume.faults l.vol;
+      same : g.V.Volume.faults l.vol ≡ g.V.Volume.faults l.fn.vol;
     }
 
 -- a log fewer

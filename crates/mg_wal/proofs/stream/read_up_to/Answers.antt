@@ -12,8 +12,8 @@ use Rattle.mg_wal_format.specs.Recovery.{log_file, log_name}
 use Rattle.mg_wal_format.proofs.ReadingLaws.{err_is}
 use Rattle.mg_wal.specs.Findings.{IsRefusal}
 use Rattle.mg_wal.specs.Streams.{head_end, IsWindow}
-use Rattle.mg_wal.proofs.StoryLaws.{of_named_value}
-use Rattle.mg_wal.proofs.ReadLaws.{stays_both}
+use Rattle.mg_wal.proofs.StoryLaws.{of_named_value, of_value}
+use Rattle.mg_wal.proofs.ReadLaws.{once_on, once_same, stays_both}
 use Rattle.mg_wal.proofs.StreamLaws.{counts_more, if_refused, order_more}
 use Rattle.mg_wal.proofs.WindowLaws.{ends_here, kinds_of, len_of, log_begins, records_more, refused_more}
 use Rattle.mg_wal.proofs.stream.read_up_to.Goals as goal
@@ -35,12 +35,16 @@ loop-number-init g c =
           (of_named_value c.log_len.result c.map_err.result c.in_ok-len.len _ _ c.map_err.ensures.cases c.map_err.ensures.variant c.in_ok-len.was (c.log_len.ensures.len tells)) in
           (len, log_begins (length counts) (counts_in counts) known.head.first bytes known c.head_end-stop.result c.new-records.result.items none (c.head_end-stop.ensures ∙ ap (head_end known) len));
       stays = λ tells. c.log_len.ensures.stays tells;
-      later = c.log_len.ensures.cause.later;
+      same = of_value c.log_len.result c.map_err.result c.in_ok-len.len (g.V.Volume.faults c.log_len.new.self ≡ g.V.Volume.faults c.args.vol.now) c.map_err.ensures.variant c.in_ok-len.was c.log_len.ensures.once.kept;
     }
 
 pub returns-in_err-window-clause-stays : goal.returns-in_err-window-clause-stays
 returns-in_err-window-clause-stays g c tells =
     stays_both _ (g.V.Volume.view c.loop-number.vol) _ (g.met.V.Volume.counts_now tells c.args.vol.now) (c.loop-number.invariant.stays tells) (c.read_window.ensures.stays tells)
+
+pub returns-in_err-window-clause-once : goal.returns-in_err-window-clause-once
+returns-in_err-window-clause-once g c =
+    once_on _ (g.V.Volume.faults c.loop-number.vol) _ c.read_window.result c.from_residual-in_err-window.result c.in_err-window.field-0.0 c.loop-number.invariant.same c.in_err-window.was (grind (arith, common_steps)) c.read_window.ensures.once
 
 pub returns-in_err-read-clause-refused : goal.returns-in_err-read-clause-refused
 returns-in_err-read-clause-refused g c tells bytes stands =
@@ -65,6 +69,9 @@ returns-in_err-read-clause-stays g c tells =
 pub returns-in_err-read-clause-kinds : goal.returns-in_err-read-clause-kinds
 returns-in_err-read-clause-kinds g c =
     err_is c.from_residual-in_err-read.result c.in_err-read.field-0.0 (λ (f : Fault). (f ≡ NoMemory) ⊎ (f ≡ ReadFault) ⊎ IsRefusal f) (grind (arith, common_steps)) (kinds_of _ _ _ _ _ _ _ _ _ c.in_err-read.ensures.refusals)
+
+pub returns-in_err-read-clause-once : goal.returns-in_err-read-clause-once
+returns-in_err-read-clause-once g c = once_same _ _ c.from_residual-in_err-read.result (g.met.V.Volume.bounded c.args.vol.now) (c.in_ok-window.ensures.once.kept ∙ c.loop-number.invariant.same)
 
 pub returns-then-count-eq0-clause-counts : goal.returns-then-count-eq0-clause-counts
 returns-then-count-eq0-clause-counts g c other =
@@ -93,9 +100,15 @@ pub returns-then-count-eq0-clause-stays : goal.returns-then-count-eq0-clause-sta
 returns-then-count-eq0-clause-stays g c tells =
     stays_both _ (g.V.Volume.view c.loop-number.vol) _ (g.met.V.Volume.counts_now tells c.args.vol.now) (c.loop-number.invariant.stays tells) (c.read_window.ensures.stays tells)
 
+pub returns-then-count-eq0-clause-once : goal.returns-then-count-eq0-clause-once
+returns-then-count-eq0-clause-once g c = once_same _ _ _ (g.met.V.Volume.bounded c.args.vol.now) (c.in_ok-window.ensures.once.kept ∙ c.loop-number.invariant.same)
+
 pub returns-in_err-append-clause-stays : goal.returns-in_err-append-clause-stays
 returns-in_err-append-clause-stays g c tells =
     stays_both _ (g.V.Volume.view c.loop-number.vol) _ (g.met.V.Volume.counts_now tells c.args.vol.now) (c.loop-number.invariant.stays tells) (c.read_window.ensures.stays tells)
+
+pub returns-in_err-append-clause-once : goal.returns-in_err-append-clause-once
+returns-in_err-append-clause-once g c = once_same _ _ c.from_residual-in_err-append.result (g.met.V.Volume.bounded c.args.vol.now) (c.in_ok-window.ensures.once.kept ∙ c.loop-number.invariant.same)
 
 pub loop-number-preserved : goal.loop-number-preserved
 loop-number-preserved g c =
@@ -123,5 +136,8 @@ loop-number-preserved g c =
                 (c.deref.ensures.value ∙ w.front) c.in_ok-read.ensures.gives.records),
           );
       stays = λ tells. stays_both _ (g.V.Volume.view l.vol) _ (g.met.V.Volume.counts_now tells c.args.vol.now) (i.stays tells) (c.read_window.ensures.stays tells);
-      later = omega (arith, i.later, c.read_window.ensures.cause.later);
+      same = c.in_ok-window.ensures.once.kept ∙ i.same;
     }
+
+pub returns-clause-once : goal.returns-clause-once
+returns-clause-once g c = once_same _ _ _ (g.met.V.Volume.bounded c.args.vol.now) c.loop-number.invariant.same

@@ -20,7 +20,7 @@ invariant-loop-number g l =
       stands : IsTrue g.V.Volume.tells → (bytes : List ℕ) → (g.V.Volume.view l.fn.vol).contents (log_name l.log.number) ≡ Some bytes
           → (l.len ≡ length bytes) × HasRecords (length l.fn.counts.items) (counts_in l.fn.counts.items) l.log.head.first bytes (head_end l.log (length bytes)) l.records.items l.stop;
       stays : IsTrue g.V.Volume.tells → Stays (g.V.Volume.view l.fn.vol) (g.V.Volume.view l.vol);
-      later : g.V.Volume.faults l.fn.vol ≤ g.V.Volume.faults l.vol;
+      same : g.V.Volume.faults l.vol ≡ g.V.Volume.faults l.fn.vol;
     }
 
 abbrev pub decreases-loop-number : goal.decreases-loop-number
