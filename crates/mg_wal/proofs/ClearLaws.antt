@@ -1,5 +1,5 @@
 -- The removal of strays, one after another: what is removed is gone, and the rest is as it was.
-use Rattle.std.proofs.Common.{◌≡◌, ◌≢◌, ⊎_elim, ℕ, ◌+◌, ◌<◌, ◌⊎◌, inl, inr, List, [], ◌∷◌, ◌++◌, length, get_or, take, drop, Option, None, Some, refl, sym, ap, subst, ◌∙◌, arith, ◌≤◌}
+use Rattle.std.proofs.Common.{◌≡◌, ◌≢◌, ℕ, ◌+◌, ◌<◌, ◌⊎◌, inl, inr, List, [], ◌∷◌, ◌++◌, length, get_or, take, drop, Option, None, Some, refl, sym, ap, subst, ◌∙◌, arith, ◌≤◌}
 use Rattle.std.proofs.lemmas.List.{drop_more, take_more}
 use Rattle.std.specs.List.{AllByRecursion}
 use Rattle.std.specs.Prelude.{IfSome}
@@ -10,15 +10,13 @@ use Rattle.mg_frame.specs.Frame.{NoFrame}
 use Rattle.mg_types.specs.declared.names.Name.{Name}
 use Rattle.mg_wal_format.specs.Recovery.{log_name, Clears, IsLess, IsStray}
 use Rattle.mg_wal_format.proofs.FoundLaws.{all_among, among, Among}
-use Rattle.mg_wal.specs.Book.{Book, Entry}
 use Rattle.mg_wal.specs.Findings.{AreRising}
-use Rattle.mg_wal.specs.Lists.{Basis}
-use Rattle.mg_wal.specs.Stories.{IsOpenLog, Reaches}
+use Rattle.mg_wal.specs.Stories.{IsOpenLog}
 use Rattle.mg_wal.specs.Strays.{AreStrays, KeepsEachReach, KeepsLess, Removes}
 use Rattle.mg_wal.proofs.MomentLaws.{one_call, same_or_other_name, then_calls}
 use Rattle.mg_wal.proofs.MoveLaws.{stays_move}
 use Rattle.mg_wal.proofs.StepLaws.{all_append, all_by}
-use Rattle.mg_wal.proofs.StrayLaws.{goes_by, IsWithout, StrayGoes}
+use Rattle.mg_wal.proofs.StrayLaws.{goes_by, StrayGoes}
 
 -- P of each element gives Q of each
 all_map : {X : Type 0} (P Q : X → Type 0) (xs : List X) → ((x : X) → P x → Q x) → AllByRecursion P xs → AllByRecursion Q xs

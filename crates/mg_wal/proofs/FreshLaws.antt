@@ -7,7 +7,6 @@ use Rattle.std.specs.List.{slice_get, AllByRecursion}
 use Rattle.std.specs.Prelude.{IfSome}
 use Rattle.mg_frame.specs.Frames.{frames}
 use Rattle.mg_wal_format.specs.declared.record.Rec.{Rec}
-use Rattle.mg_wal_format.specs.Heads.{IsSoundHead}
 use Rattle.mg_wal_format.specs.Logs.{counts_after, entry_of, one_more, InOrder, Log}
 use Rattle.mg_wal_format.specs.Records.{counts_in, Counts}
 use Rattle.mg_wal_format.specs.Recovery.{end_of, first_of, last_number, low_of, HasHeads}
@@ -17,8 +16,8 @@ use Rattle.mg_wal_format.proofs.TornLaws.{InOrder-number}
 use Rattle.mg_wal.specs.Book.{staged_of, AreKept, Book, Entry, Staged}
 use Rattle.mg_wal.specs.declared.known.KnownLog.{KnownLog}
 use Rattle.mg_wal.specs.Findings.{AreKnown}
-use Rattle.mg_wal.specs.Lists.{before_unsynced, Basis, Books, IsEmpty, IsNextOf, next_of}
-use Rattle.mg_wal.specs.Openings.{basis_for, log_known, IsFresh}
+use Rattle.mg_wal.specs.Lists.{before_unsynced, Books, IsEmpty, IsNextOf, next_of}
+use Rattle.mg_wal.specs.Openings.{basis_for, log_known}
 use Rattle.mg_wal.proofs.CountLaws.{counts_rise}
 
 -- ---- counts that a file may keep

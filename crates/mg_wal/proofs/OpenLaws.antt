@@ -1,5 +1,5 @@
 -- What was read of a volume is what its image gives, or for what it is refused.
-use Rattle.std.proofs.Common.{◌≡◌, ℕ, ◌<◌, ◌≤◌, ◌^◌, ◌⊎◌, inl, inr, List, [], ◌∷◌, ◌++◌, length, map, get_or, Some, refl, sym, ap, subst, ◌∙◌, arith}
+use Rattle.std.proofs.Common.{◌≡◌, ℕ, ◌<◌, ◌≤◌, ◌^◌, ◌⊎◌, inl, inr, List, [], ◌∷◌, length, map, get_or, Some, refl, sym, ap, subst, ◌∙◌}
 use Rattle.std.specs.List.{AllByRecursion}
 use Rattle.mg_disk.specs.Images.{Image}
 use Rattle.mg_types.specs.declared.faults.Fault.{Fault}
@@ -7,15 +7,12 @@ use Rattle.mg_types.specs.declared.faults.Fault.TheVariants.{NoMemory}
 use Rattle.mg_wal_format.specs.declared.record.Rec.{Rec}
 use Rattle.mg_wal_format.specs.Logs.{Gives, Log}
 use Rattle.mg_wal_format.specs.Recovery.{found_of, first_of, log_bytes, log_name, low_of, AreLogs, Found, HasHeads, HasRoom, IsHeadsFault, IsNewestFine, IsNewestRefused, IsRefused, IsStreamFault, end_of, AreRefused}
-use Rattle.mg_wal_format.proofs.FoundLaws.{cons_same}
 use Rattle.mg_wal.specs.Book.{Book}
 use Rattle.mg_wal.specs.declared.finding.FoundLogs.{FoundLogs}
 use Rattle.mg_wal.specs.declared.finding.HeadFrame.{HeadFrame}
 use Rattle.mg_wal.specs.declared.known.KnownLog.{KnownLog}
 use Rattle.mg_wal.specs.Findings.{head_frame, AreKnown, AreReady, HasFound, IsRefusal, StandIn}
-use Rattle.mg_wal.specs.Lists.{Basis}
 use Rattle.mg_wal.specs.Openings.{basis_for, log_known, IsFresh, IsNewestName, OpensAs}
-use Rattle.mg_wal.proofs.CountLaws.{Gives-same}
 
 -- ---- heads
 

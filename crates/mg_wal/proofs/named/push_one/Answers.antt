@@ -1,4 +1,4 @@
-use Rattle.std.proofs.Common.{◌≡◌, ap, sym, subst, inl, inr, ◌∙◌}
+use Rattle.std.proofs.Common.{ap, sym, subst, ◌∙◌}
 use Rattle.mg_turn.specs.History.{IsPrefix}
 use Rattle.mg_turn.proofs.Lists.{prefix_more}
 use Rattle.mg_wal.proofs.ShareLaws.{err_at, has_entered, has_place, next_number, stands_entered}

@@ -1,4 +1,4 @@
-use Rattle.std.proofs.Common.{◌≡◌, ℕ, ◌<◌, ◌+◌, ◌^◌, List, [], length, None, refl, sym, ap, subst, ◌∙◌, arith}
+use Rattle.std.proofs.Common.{◌≡◌, ◌+◌, List, length, None, refl, sym, ap, subst, ◌∙◌, arith}
 use Rattle.mg_wal_format.specs.Logs.{Log}
 use Rattle.mg_wal_format.proofs.ReadingLaws.{none_is_not_found}
 use Rattle.mg_wal_format.specs.Recovery.{first_of}

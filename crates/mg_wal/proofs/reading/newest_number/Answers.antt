@@ -1,4 +1,4 @@
-use Rattle.std.proofs.Common.{refl, sym}
+use Rattle.std.proofs.Common.{sym}
 use Rattle.mg_wal.proofs.FreshLaws.{last_known}
 use Rattle.mg_wal.proofs.reading.newest_number.Goals as goal
 

@@ -2,10 +2,9 @@ use Rattle.std.proofs.Common.{◌≡◌, ap, arith, length, sym, ◌∙◌}
 use Rattle.std.proofs.lemmas.Grind.{common_steps}
 use Rattle.mg_wal_format.specs.Recovery.{IsRefused}
 use Rattle.mg_wal_format.proofs.ReadingLaws.{err_is}
-use Rattle.mg_wal.specs.Book.{AreKept}
-use Rattle.mg_wal.specs.Findings.{AreReady, IsRefusal}
+use Rattle.mg_wal.specs.Findings.{IsRefusal}
 use Rattle.mg_wal.specs.States.{ledger_book}
-use Rattle.mg_wal.proofs.OpenLaws.{below_of, judged_some, opens_as, ready_of, refused_heads, refused_stream, stand_found, TellsHeads}
+use Rattle.mg_wal.proofs.OpenLaws.{below_of, judged_some, opens_as, ready_of, refused_heads, refused_stream, stand_found}
 use Rattle.mg_wal.proofs.ReadLaws.{stays_both}
 use Rattle.mg_wal.proofs.reading.read_volume.Goals as goal
 

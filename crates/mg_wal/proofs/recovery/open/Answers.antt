@@ -1,6 +1,5 @@
 use Rattle.std.proofs.Common.{◌≡◌, ℕ, arith, subst, []}
 use Rattle.std.proofs.lemmas.Grind.{common_steps}
-use Rattle.mg_disk.specs.Moments.{LeavesOnly}
 use Rattle.mg_types.specs.declared.faults.Fault.TheVariants.{WriteFault}
 use Rattle.mg_wal_format.specs.Recovery.{Opens}
 use Rattle.mg_wal.specs.Strays.{OpensWithStray}
