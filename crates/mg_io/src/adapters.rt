@@ -1,6 +1,7 @@
 //! Readers and writers of `std` as sources and sinks.
 
 ghost use Rattle.std.specs.Prelude.{◌≡◌, ◌<◌, ◌≤◌, length, IfOk, OnErr, OnOk};
+ghost use Rattle.std.specs.Result.{IsErrOf};
 ghost use Rattle.std.specs.Io.{ReadsAtMost, WritesAtMost};
 ghost use Rattle.std.specs.Io.KnownBytes.{ReadConsumes, WriteAppends};
 ghost use Rattle.mg_faults.specs.Causes.{HasCause, CountsOnce, kept_count, raised};
@@ -53,6 +54,7 @@ impl<R: Read> Source for StdSource<R> {
         ensures once { CountsOnce (kept_count self.old.faults) (kept_count self.new.faults) result }
         ensures good { OnOk result (self.new.faults ≡ self.old.faults) }
         ensures failed { OnErr result (self.new.faults ≡ raised self.old.faults 1) }
+        ensures memory { IsErrOf result IoError.NoMemory → ⊥ }
     {
         match self.inner.read(buf) {
             Ok(count) => Ok(count),
@@ -108,6 +110,7 @@ impl<W: Write> Sink for StdSink<W> {
         ensures once { CountsOnce (kept_count self.old.faults) (kept_count self.new.faults) result }
         ensures good { OnOk result (self.new.faults ≡ self.old.faults) }
         ensures failed { OnErr result (self.new.faults ≡ raised self.old.faults 1) }
+        ensures memory { IsErrOf result IoError.NoMemory → ⊥ }
     {
         match self.inner.write(bytes) {
             Ok(count) if count > 0 || bytes.is_empty() => Ok(count),

@@ -82,7 +82,7 @@ fn place(n: u16) -> usize
 }
 
 impl MemHost {
-    ghost use Rattle.std.specs.Prelude.{◌≡◌, ◌++◌, ◌∷◌, [], ℕ, false, Some, OnOk, IsErrOf, IsSome, option_map};
+    ghost use Rattle.std.specs.Prelude.{◌≡◌, ◌++◌, ◌∷◌, [], ℕ, false, Some, OnOk, OnErr, IsOk, IsErrOf, IsSome, option_map};
     ghost use Rattle.mg_disk.specs.Hosts.{IsVolume};
     ghost use Rattle.mg_memdisk.specs.Hosts.{mem_state, host_faults, host_ports, HasEmpty, IsEmptySlot, Puts};
 
@@ -113,6 +113,7 @@ impl MemHost {
         ensures put { Puts n vol (mem_state self.old) (mem_state self.new) }
         ensures counts { host_faults self.new ≡ host_faults self.old }
         ensures ports { host_ports self.new ≡ host_ports self.old }
+        ensures puts { IsOk result }
         ensures memory { IsErrOf result DiskError.Failed → ⊥ }
     {
         let at = place(n);
@@ -123,6 +124,7 @@ impl MemHost {
     /// Gives the numbers of the calls, from 1, that fail in the next port for which this was not said yet.
     pub fn next_port(&mut self, failing: Vec<u64>) -> Result<(), DiskError>
         ensures kept { OnOk result (host_ports self.new ≡ host_ports self.old ++ failing ∷ []) }
+        ensures none { OnErr result (host_ports self.new ≡ host_ports self.old) }
         ensures same { mem_state self.new ≡ mem_state self.old }
         ensures counts { host_faults self.new ≡ host_faults self.old }
         ensures memory { IsErrOf result DiskError.Failed → ⊥ }
