@@ -5,7 +5,6 @@
 mod block;
 mod bloom;
 mod frame;
-mod port;
 mod segment;
 mod table;
 mod turn;

@@ -1,8 +1,8 @@
 //! Workloads over a segment in memory, with documents of `size` bytes, at most 1 MiB, under one key of 20 bytes.
 
-use crate::port::CountingFiles;
 use anyhow::{Context, Result, bail};
 use mg_memdisk::{MemDraft, MemFiles, MemSealed};
+use mg_sealed::CountingFiles;
 use mg_segment::{Segment, SegmentWriter};
 use mg_types::{Doc, FileId, Item, Key, Kind};
 use std::alloc::Global;
@@ -28,7 +28,7 @@ pub fn write_segment(alloc: Global, count: u64, size: usize) -> Result<u64> {
 pub fn get_from_segment(alloc: Global, count: u64, size: usize) -> Result<u64> {
     let mut port = CountingFiles::new(MemFiles::new(Vec::new(alloc)));
     let segment = filled(alloc, &mut port, count, size)?;
-    let before = port.read;
+    let before = port.bytes_read;
     for n in 0..count {
         let number = n.wrapping_mul(7_919) % count + 1;
         let item = segment
@@ -38,14 +38,14 @@ pub fn get_from_segment(alloc: Global, count: u64, size: usize) -> Result<u64> {
             bail!("another document is found");
         }
     }
-    Ok(port.read.saturating_sub(before))
+    Ok(port.bytes_read.saturating_sub(before))
 }
 
 /// `get_from_segment` with one buffer that is lent for all blocks.
 pub fn get_lent_from_segment(alloc: Global, count: u64, size: usize) -> Result<u64> {
     let mut port = CountingFiles::new(MemFiles::new(Vec::new(alloc)));
     let segment = filled(alloc, &mut port, count, size)?;
-    let before = port.read;
+    let before = port.bytes_read;
     let mut buffer = Vec::new(alloc);
     for n in 0..count {
         let number = n.wrapping_mul(7_919) % count + 1;
@@ -56,7 +56,7 @@ pub fn get_lent_from_segment(alloc: Global, count: u64, size: usize) -> Result<u
             bail!("another document is found");
         }
     }
-    Ok(port.read.saturating_sub(before))
+    Ok(port.bytes_read.saturating_sub(before))
 }
 
 /// A segment of so many documents, numbered from 1.

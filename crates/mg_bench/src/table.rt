@@ -1,9 +1,9 @@
 //! Workloads over a table in memory. Its keys are the even numbers in decimal digits, of `size` bytes, at most 250.
 
-use crate::port::CountingFiles;
 use anyhow::{Context, Result, bail};
 use mg_bloom::HashedKey;
 use mg_memdisk::{MemDraft, MemFiles, MemSealed};
+use mg_sealed::CountingFiles;
 use mg_table::{Table, TableWriter};
 use mg_types::{Entry, FileId, Key, Kind};
 use std::alloc::Global;
@@ -28,7 +28,7 @@ type Port = CountingFiles<MemFiles>;
 pub fn write_table(alloc: Global, count: u64, size: usize) -> Result<u64> {
     let mut port = CountingFiles::new(MemFiles::new(Vec::new(alloc)));
     filled(alloc, &mut port, count, size)?;
-    Ok(port.written)
+    Ok(port.bytes_written)
 }
 
 /// Looks `count` times for a key of a table of `count` entries, at most 100,000, and answers how many bytes were read.
@@ -36,7 +36,7 @@ pub fn find_in_table(alloc: Global, count: u64, size: usize) -> Result<u64> {
     let mut port = CountingFiles::new(MemFiles::new(Vec::new(alloc)));
     let entries = count.min(MOST_ENTRIES);
     let table = filled(alloc, &mut port, entries, size)?;
-    let before = port.read;
+    let before = port.bytes_read;
     for n in 0..count {
         let number = n.wrapping_mul(7_919) % entries;
         let key = key_of(alloc, 2 * number, size)?;
@@ -44,7 +44,7 @@ pub fn find_in_table(alloc: Global, count: u64, size: usize) -> Result<u64> {
             bail!("a key is not found");
         }
     }
-    Ok(port.read.saturating_sub(before))
+    Ok(port.bytes_read.saturating_sub(before))
 }
 
 /// `find_in_table` with one buffer that is lent for all blocks.
@@ -52,7 +52,7 @@ pub fn find_lent_in_table(alloc: Global, count: u64, size: usize) -> Result<u64>
     let mut port = CountingFiles::new(MemFiles::new(Vec::new(alloc)));
     let entries = count.min(MOST_ENTRIES);
     let table = filled(alloc, &mut port, entries, size)?;
-    let before = port.read;
+    let before = port.bytes_read;
     let mut buffer = Vec::new(alloc);
     for n in 0..count {
         let number = n.wrapping_mul(7_919) % entries;
@@ -63,7 +63,7 @@ pub fn find_lent_in_table(alloc: Global, count: u64, size: usize) -> Result<u64>
             bail!("a key is not found");
         }
     }
-    Ok(port.read.saturating_sub(before))
+    Ok(port.bytes_read.saturating_sub(before))
 }
 
 /// Looks `count` times for a key between two of a table of `count` entries, at most 100,000, and answers how many bytes were
@@ -72,7 +72,7 @@ pub fn find_absent_in_table(alloc: Global, count: u64, size: usize) -> Result<u6
     let mut port = CountingFiles::new(MemFiles::new(Vec::new(alloc)));
     let entries = count.min(MOST_ENTRIES);
     let table = filled(alloc, &mut port, entries, size)?;
-    let before = port.read;
+    let before = port.bytes_read;
     for n in 0..count {
         let number = n.wrapping_mul(7_919) % entries;
         let key = key_of(alloc, 2 * number + 1, size)?;
@@ -80,7 +80,7 @@ pub fn find_absent_in_table(alloc: Global, count: u64, size: usize) -> Result<u6
             bail!("an absent key is found");
         }
     }
-    Ok(port.read.saturating_sub(before))
+    Ok(port.bytes_read.saturating_sub(before))
 }
 
 /// A table of so many entries.

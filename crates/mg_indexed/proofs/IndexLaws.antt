@@ -1,8 +1,10 @@
 -- An index that is kept: where its handles stand, and the search in it.
-use Rattle.std.proofs.Common.{ℕ, zero, suc, ◌+◌, ◌-◌, ◌*◌, ◌<◌, ◌≤◌, ◌^◌, List, [], ◌∷◌, length, slice_index_or, arith}
+use Rattle.std.proofs.Common.{◌≡◌, ℕ, zero, suc, ◌+◌, ◌-◌, ◌*◌, ◌<◌, ◌≤◌, ◌^◌, List, [], ◌∷◌, ◌++◌, length, slice_index_or, refl, ap, ◌∙◌, arith}
+use Rattle.std.proofs.lemmas.List.Sums.{sum_by-cons}
+use Rattle.std.specs.Prelude.{sum_by}
 use Rattle.std.specs.List.{HoldsAt}
 use Rattle.mg_indexed.specs.Forms.{Form}
-use Rattle.mg_indexed.specs.Index.{AreRising, BeginUpTo, IsIndexFrom}
+use Rattle.mg_indexed.specs.Index.{handles_of, AreRising, BeginUpTo, IsIndexFrom}
 use Rattle.mg_indexed.specs.Keys.{Keys, IsLawful}
 use Rattle.mg_indexed.specs.declared.handle.BlockHandle.{BlockHandle}
 
@@ -62,6 +64,23 @@ begin_up_to keys form lawful previous at handles end is key count within last fo
       (above_on keys form lawful previous at handles end is key k (count - 1) d (omega (arith, high)) (omega (arith, high, within)) above),
   λ k d low high. above_on keys form lawful previous at handles end is key count k d low high (following (omega (arith, low, high)) d),
 )
+
+-- ---- the handles of blocks
+
+pub length-handles_of : {B K : Type 0} (first_of : B → K) (length_of : B → ℕ) (at : ℕ) (blocks : List B) → length (handles_of first_of length_of at blocks) ≡ length blocks
+length-handles_of first_of length_of at [] = refl
+length-handles_of first_of length_of at (b ∷ blocks) = ap suc (length-handles_of first_of length_of (at + length_of b) blocks)
+
+-- one block more
+pub handles_of-push : {B K : Type 0} (first_of : B → K) (length_of : B → ℕ) (at : ℕ) (blocks : List B) (last : B) → handles_of first_of length_of at (blocks ++ last ∷ [])
+    ≡ handles_of first_of length_of at blocks ++ record { first = first_of last; at = at + sum_by length_of blocks; len = length_of last } ∷ []
+handles_of-push first_of length_of at [] last = ap (λ n. record { first = first_of last; at = n; len = length_of last } ∷ []) (omega arith)
+handles_of-push first_of length_of at (b ∷ blocks) last =
+    let later = at + length_of b in
+    let there : later + sum_by length_of blocks ≡ at + sum_by length_of (b ∷ blocks) = omega (arith, sum_by-cons length_of b blocks) in
+    ap (λ handles. record { first = first_of b; at = at; len = length_of b } ∷ handles)
+    (handles_of-push first_of length_of later blocks last
+    ∙ ap (λ n. handles_of first_of length_of later blocks ++ record { first = first_of last; at = n; len = length_of last } ∷ []) there)
 
 -- ---- how long the blocks are
 

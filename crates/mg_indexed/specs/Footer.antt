@@ -88,4 +88,4 @@ IsFooterUnfit id at filtered body fault =
 -- where the index frame ends in a file of this length: where the filter stands, or the footer where there is none
 abbrev pub index_end : Option ℕ → ℕ → ℕ
 index_end (Some at) len = at
-index_end None len = len - 65
+index_end None len = len - footer_size false

@@ -24,6 +24,12 @@ abbrev pub index_bytes : {K : Type 0} → Keys K → List (BlockHandle K) → Li
 index_bytes keys [] = []
 index_bytes keys (handle ∷ handles) = handle_bytes keys handle ++ index_bytes keys handles
 
+-- the handles of blocks whose frames stand one after the other from this offset on: of each block its first key, and the whole length of its frame
+abbrev pub handles_of : {B K : Type 0} → (B → K) → (B → ℕ) → ℕ → List B → List (BlockHandle K)
+handles_of first_of length_of at [] = []
+handles_of first_of length_of at (block ∷ blocks) =
+    record { first = first_of block; at = at; len = length_of block } ∷ handles_of first_of length_of (at + length_of block) blocks
+
 -- a handle's key and numbers fit their fields
 pub record FitsFields {K : Type 0} (keys : Keys K) (handle : BlockHandle K) : Type 0 where
   pub first : keys.fits handle.first

@@ -25,5 +25,5 @@ pub use index::index_body;
 pub use indexed::Indexed;
 pub use item::BlockItem;
 pub use key::BlockKey;
-pub use loading::{footer_len, load};
+pub use loading::{FILTERED_FOOTER_LEN, footer_len, load};
 pub use writing::ClosedBlocks;

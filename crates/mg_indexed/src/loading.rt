@@ -1,6 +1,6 @@
 //! Loading a file: its footer and its index.
 
-ghost use Rattle.std.specs.Prelude.{◌≡◌, ℕ, ◌-◌, ◌<◌, ◌≤◌, ◌^◌, ◌⊎◌, List, length, IfErr, IfOk, IfSome, MatchResult};
+ghost use Rattle.std.specs.Prelude.{◌≡◌, ℕ, ◌-◌, ◌<◌, ◌≤◌, ◌^◌, ◌⊎◌, List, false, length, IfErr, IfOk, IfSome, MatchResult};
 ghost use Rattle.mg_faults.specs.Causes.{HasCause, CountsOnce};
 ghost use Rattle.mg_sealed.specs.Answers.{IsOutside};
 ghost use Rattle.mg_sealed.specs.Blocks.{IsUnfitAt};
@@ -24,11 +24,21 @@ use mg_types::{Fault, FileId};
 use std::alloc::Global;
 use std::marker::PhantomData;
 
+/// The whole length in bytes of a footer's frame without a filter's offset.
+const FOOTER_LEN: u64 = 65;
+
+/// The whole length in bytes of a footer's frame with a filter's offset.
+pub const FILTERED_FOOTER_LEN: u64 = 73;
+
 /// The whole length of a footer's frame in bytes, with a filter's offset or without.
 pub fn footer_len(filtered: bool) -> u64
     ensures { result ≡ footer_size filtered }
 {
-    if filtered { 73 } else { 65 }
+    if filtered {
+        FILTERED_FOOTER_LEN
+    } else {
+        FOOTER_LEN
+    }
 }
 
 /// How many frames stand between the blocks and the footer.
@@ -40,7 +50,7 @@ fn frames_between(filtered: bool) -> u64
 
 /// Where the index frame ends in a file of this length.
 fn index_ends(footer: &Footer, len: u64) -> u64
-    requires { 65 ≤ len }
+    requires { footer_size false ≤ len }
     ensures { result ≡ index_end footer.now.filter_at len }
 {
     match footer.filter_at {

@@ -14,23 +14,17 @@ use Rattle.mg_indexed.specs.Footer.{footer_bytes}
 use Rattle.mg_indexed.specs.Index.{handle_bytes, index_bytes}
 use Rattle.mg_indexed.specs.NumberKeys.{number_keys}
 use Rattle.mg_indexed.proofs.FieldLaws.{length-footer_bytes, length-item_bytes}
+use Rattle.mg_indexed.proofs.IndexLaws.{length-handles_of, handles_of-push}
 use Rattle.mg_records.specs.File.{block_of, first_number, frame_length, index_from, end_of, footer_of, bodies_of}
 use Rattle.mg_records.specs.Record.{Kind}
 use Rattle.mg_indexed.specs.declared.handle.BlockHandle.{BlockHandle}
 
 pub length-index_from : {T : Type 0} (kind : Kind T) (at : ℕ) (blocks : List (List T)) → length (index_from kind at blocks) ≡ length blocks
-length-index_from kind at [] = refl
-length-index_from kind at (b ∷ blocks) = ap suc (length-index_from kind (at + frame_length kind b) blocks)
+length-index_from kind at blocks = length-handles_of (first_number kind) (frame_length kind) at blocks
 
 pub index_from-push : {T : Type 0} (kind : Kind T) (at : ℕ) (blocks : List (List T)) (xs : List T) → index_from kind at (blocks ++ xs ∷ [])
     ≡ index_from kind at blocks ++ record { first = first_number kind xs; at = at + end_of kind blocks; len = frame_length kind xs } ∷ []
-index_from-push kind at [] xs = ap (λ n. record { first = first_number kind xs; at = n; len = frame_length kind xs } ∷ []) (omega arith)
-index_from-push kind at (b ∷ blocks) xs =
-    let later = at + frame_length kind b in
-    let there : later + end_of kind blocks ≡ at + end_of kind (b ∷ blocks) = omega (arith, sum_by-cons (frame_length kind) b blocks) in
-    ap (λ handles. record { first = first_number kind b; at = at; len = frame_length kind b } ∷ handles)
-    (index_from-push kind later blocks xs
-    ∙ ap (λ n. index_from kind later blocks ++ record { first = first_number kind xs; at = n; len = frame_length kind xs } ∷ []) there)
+index_from-push kind at blocks xs = handles_of-push (first_number kind) (frame_length kind) at blocks xs
 
 pub end_of-push : {T : Type 0} (kind : Kind T) (blocks : List (List T)) (xs : List T) → end_of kind (blocks ++ xs ∷ []) ≡ end_of kind blocks + frame_length kind xs
 end_of-push kind blocks xs = sum_by_push (frame_length kind) blocks xs

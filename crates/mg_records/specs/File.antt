@@ -3,6 +3,7 @@ use Rattle.std.specs.Prelude.{◌≡◌, ◌≢◌, ℕ, ◌+◌, ◌*◌, ◌<�
 use Rattle.std.specs.List.{AllByRecursion}
 use Rattle.mg_frame.specs.Frames.{numbered_frames}
 use Rattle.mg_sealed.specs.Filling.{AreFilled, items_of}
+use Rattle.mg_indexed.specs.Index.{handles_of}
 use Rattle.mg_indexed.specs.NumberKeys.{number_keys}
 use Rattle.mg_indexed.specs.Writing.{file_bodies}
 use Rattle.mg_records.specs.Record.{Kind, IsRecord, record_bytes}
@@ -44,9 +45,7 @@ frame_length kind block = length (block_of kind block) + 20
 
 -- the index of blocks whose frames stand one after the other from this offset on
 abbrev pub index_from : {T : Type 0} → Kind T → ℕ → List (List T) → List (BlockHandle ℕ)
-index_from kind at [] = []
-index_from kind at (block ∷ blocks) =
-    record { first = first_number kind block; at = at; len = frame_length kind block } ∷ index_from kind (at + frame_length kind block) blocks
+index_from kind at blocks = handles_of (first_number kind) (frame_length kind) at blocks
 
 -- where the frames of blocks end
 abbrev pub end_of : {T : Type 0} → Kind T → List (List T) → ℕ

@@ -1,5 +1,5 @@
 -- What is read of the blocks of a file of records.
-use Rattle.std.specs.Prelude.{◌≡◌, ◌≢◌, ℕ, zero, suc, ◌+◌, ◌<◌, ◌≤◌, ◌^◌, ◌⊎◌, List, [], ◌∷◌, ◌++◌, length, sum_by, ◌-◌, slice_index_or, filter, nat_lt, Option, Some, None, Ok, Err}
+use Rattle.std.specs.Prelude.{◌≡◌, ◌≢◌, ℕ, zero, suc, ◌+◌, ◌<◌, ◌≤◌, ◌^◌, ◌⊎◌, List, [], ◌∷◌, ◌++◌, length, sum_by, ◌-◌, slice_index_or, false, filter, nat_lt, Option, Some, None, Ok, Err}
 use Rattle.std.specs.List.{AllByRecursion, Any}
 use Rattle.mg_frame.specs.BigEndian.{big_endian}
 use Rattle.mg_frame.specs.Frame.{StandsAt}
@@ -8,6 +8,7 @@ use Rattle.mg_types.specs.declared.faults.Fault.TheVariants.{Damaged, Malformed}
 use Rattle.mg_types.specs.declared.names.FileId.{FileId}
 use Rattle.mg_sealed.specs.Blocks.{block_body, IsUnfitAt}
 use Rattle.mg_sealed.specs.Filling.{Fits, items_of}
+use Rattle.mg_indexed.specs.Footer.{footer_size}
 use Rattle.mg_indexed.specs.Index.{BeginUpTo}
 use Rattle.mg_indexed.specs.NumberKeys.{number_keys}
 use Rattle.mg_records.specs.File.{block_of, record_of, last_number}
@@ -210,7 +211,7 @@ AreTotals kind filed after last records = HasTotals filed after last (length rec
 -- the footer does not tell of these blocks, which end the file: their last number is another one, or, where they are all blocks, so is their count or the sum
 -- of their sizes
 abbrev pub IsUntold : {T S : Type 0} → Kind T → Filed S → ℕ → List (List T) → Fault → Type 0
-IsUntold kind filed after blocks fault = (fault ≡ Malformed filed.file.id (filed.file.len - 65)) × (AreTotals kind filed after (last_number kind (items_of blocks)) (items_of blocks) → ⊥)
+IsUntold kind filed after blocks fault = (fault ≡ Malformed filed.file.id (filed.file.len - footer_size false)) × (AreTotals kind filed after (last_number kind (items_of blocks)) (items_of blocks) → ⊥)
 
 -- What is wrong behind blocks that are right, from the one on at which a scan begins: the next block, or, behind all of them, the footer, whose last number
 -- is not the last record's, or whose count or sum is not that of the records of the whole file.

@@ -1,5 +1,6 @@
 -- What is read of the footer and the index of a file of records.
 use Rattle.std.specs.Prelude.{◌≡◌, ℕ, ◌≤◌, List, length, false}
+use Rattle.mg_indexed.specs.Footer.{footer_size}
 use Rattle.mg_indexed.specs.Forms.{Form}
 use Rattle.mg_indexed.specs.Index.{first_after}
 use Rattle.mg_indexed.specs.Loading.{IsFooterRead, IsIndexRead, IsKept as AreKept}
@@ -22,7 +23,7 @@ pub record IsKept (form : Form) (footer : Footer) (index : List (BlockHandle ℕ
 -- The footer and the index that are kept of a file are those of these bytes, as is its length.
 pub record IsRead {S : Type 0} (form : Form) (bytes : List ℕ) (filed : Filed S) : Type 0 where
   pub len : filed.file.len ≡ length bytes
-  pub least : 65 ≤ length bytes
+  pub least : footer_size false ≤ length bytes
   pub footer : IsFooterRead false filed.file.id bytes filed.footer
   pub index : IsIndexRead number_keys filed.file.id bytes filed.footer filed.index
   pub kept : IsKept form filed.footer filed.index

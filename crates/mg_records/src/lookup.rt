@@ -1,8 +1,9 @@
 //! Records of a file are found by their numbers.
 
-ghost use Rattle.std.specs.Prelude.{◌≡◌, ◌+◌, ◌-◌, ◌<◌, ◌≤◌, ◌≢◌, ◌⊎◌, List, [], length, sum_by, min, ◌^◌, filter, nat_lt, IfErr, IfOk, IfSome, IsOkAnd, IsSome, MatchResult, Ok, None};
+ghost use Rattle.std.specs.Prelude.{◌≡◌, ◌+◌, ◌-◌, ◌<◌, ◌≤◌, ◌≢◌, ◌⊎◌, List, [], length, sum_by, min, ◌^◌, false, filter, nat_lt, IfErr, IfOk, IfSome, IsOkAnd, IsSome, MatchResult, Ok, None};
 ghost use Rattle.mg_faults.specs.Causes.{CountsOnce, HasCause};
 ghost use Rattle.mg_frame.specs.Frame.{StandsAt};
+ghost use Rattle.mg_indexed.specs.Footer.{footer_size};
 ghost use Rattle.mg_records.specs.BlockFor.{IsBlockFor};
 ghost use Rattle.mg_records.specs.File.{IsFile, record_of};
 ghost use Rattle.mg_records.specs.Lookup.{IsBlock, IsBlockFault, IsGot, IsListed, IsScanRefused, IsSoughtRefused, IsSpan, HasTotals};
@@ -122,7 +123,7 @@ impl<S: Drop, R: Record> RecordFile<S, R> {
         ensures causes { IfErr result (λ fault. IfSome (F.Files.told self.now.file.file) (λ bytes. self.now.file.len ≡ length bytes →
             IsOutside fault ⊎ IsScanRefused R.kind bytes self.now after fault)) }
         ensures refusals { IfErr result (λ fault. IsOutside fault ⊎ IsBlockFault self.now.file.id self.now.index fault
-            ⊎ (fault ≡ Fault.Malformed self.now.file.id (self.now.file.len - 65))) }
+            ⊎ (fault ≡ Fault.Malformed self.now.file.id (self.now.file.len - footer_size false))) }
         ensures cause { HasCause Fault.ReadFault (F.Files.faults port.old) (F.Files.faults port.new) result }
         ensures once { CountsOnce (F.Files.faults port.old) (F.Files.faults port.new) result }
     {
@@ -152,7 +153,7 @@ impl<S: Drop, R: Record> RecordFile<S, R> {
     /// the sum of their sizes.
     fn check_totals(&self, after: u64, last: u64, count: u64, sum: u64) -> Result<(), Fault>
         ensures told { IfOk result (λ _. HasTotals self.now after last count sum) }
-        ensures refusals { IfErr result (λ fault. (fault ≡ Fault.Malformed self.now.file.id (self.now.file.len - 65)) × (HasTotals self.now after last count sum → ⊥)) }
+        ensures refusals { IfErr result (λ fault. (fault ≡ Fault.Malformed self.now.file.id (self.now.file.len - footer_size false)) × (HasTotals self.now after last count sum → ⊥)) }
     {
         let footer = self.indexed.footer();
         let whole = after < footer.low;

@@ -1,5 +1,6 @@
 pub mod Answers
 pub mod Blocks
+pub mod Counting
 pub mod Filling
 pub mod Footer
 pub mod Laws

@@ -6,6 +6,7 @@ ghost use Rattle.mg_frame.specs.Frame.{StandsAt};
 ghost use Rattle.mg_sealed.specs.Answers.{Answers, IsOutside};
 ghost use Rattle.mg_sealed.specs.Blocks.{block_body, IsUnfitAt};
 
+use crate::counting::CountingFiles;
 use crate::errors::malformed;
 use crate::reading::{Frame, SealedFile, read_frame_into};
 use mg_disk::Files;
@@ -79,6 +80,9 @@ pub trait Blocks: Files {
 }
 
 impl Blocks for MemFiles {}
+
+// A block is read through `read`, so that what it takes is counted.
+impl<F: Files> Blocks for CountingFiles<F> {}
 
 /// Reads a block, as `Blocks` says it.
 #[tactic(auto, unfolding(crate::specs::Blocks::block_body))]

@@ -6,6 +6,7 @@
 #![tactic(auto)]
 
 mod blocks;
+mod counting;
 mod errors;
 pub mod laws;
 mod numbers;
@@ -15,6 +16,7 @@ mod tests;
 mod writing;
 
 pub use blocks::{BLOCK_LIMIT, Block, Blocks};
+pub use counting::CountingFiles;
 pub use errors::{damaged, malformed};
 pub use numbers::{check_numbers, check_offset, grown};
 pub use reading::{Frame, SealedFile, open_sealed, read_footer, read_frame};

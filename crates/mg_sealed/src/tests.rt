@@ -245,3 +245,18 @@ fn a_file_is_its_frames(rt: HostRuntime) -> Result<(), Fail> {
     }
     Ok(())
 }
+
+#[test]
+fn what_goes_through_a_port_is_counted(rt: HostRuntime) -> Result<(), Fail> {
+    let alloc = rt.alloc();
+    let mut port = CountingFiles::new(MemFiles::new(Vec::new(alloc)));
+    let mut draft = port.fresh(alloc)?;
+    port.append(alloc, &mut draft, b"segment")?;
+    let file = port.seal(alloc, draft)?;
+    let mut buf = [0; 4];
+    assert_eq!(rt; port.read(alloc, &file, 5, &mut buf)?, 2);
+    assert_eq!(rt; port.bytes_written, 7);
+    assert_eq!(rt; port.take_reads(), (1, 2));
+    assert_eq!(rt; port.take_reads(), (0, 0));
+    Ok(())
+}

@@ -18,7 +18,7 @@ use Rattle.mg_sealed.specs.Filling.{Fits, AreFilled, items_of}
 use Rattle.mg_sealed.specs.Reading.{frame_body}
 use Rattle.mg_sealed.proofs.WritingLaws.{numbered-more}
 use Rattle.mg_sealed.proofs.WrittenLaws.{written_frame_is_read}
-use Rattle.mg_table.specs.Entries.{block_body, pair_of}
+use Rattle.mg_table.specs.Entries.{block_body, first_key, pair_of}
 use Rattle.mg_types.specs.Items.{IsEntry}
 use Rattle.mg_table.specs.Filters.{IsFilterOf}
 use Rattle.mg_indexed.specs.Footer.{footer_bytes, offset_of, IsFooter}
@@ -32,6 +32,7 @@ use Rattle.mg_types.specs.declared.items.Entry.{Entry}
 use Rattle.mg_table.proofs.EntryLaws.{above-none, length-payload_of, one-fits}
 use Rattle.mg_indexed.proofs.FieldLaws.{length-footer_bytes}
 use Rattle.mg_indexed.proofs.HandleLaws.{least-index_bytes}
+use Rattle.mg_indexed.proofs.IndexLaws.{length-handles_of}
 use Rattle.mg_table.proofs.IndexLaws.{length-frames, total}
 
 -- ---- entries that rise
@@ -131,8 +132,7 @@ sizes_in_count (entry ∷ entries) each =
 -- ---- the index
 
 pub length-handles_from : (at : ℕ) (blocks : List (List Entry)) → length (handles_from at blocks) ≡ length blocks
-length-handles_from at [] = refl
-length-handles_from at (b ∷ blocks) = ap suc (length-handles_from (at + frame_length b) blocks)
+length-handles_from at blocks = length-handles_of first_key frame_length at blocks
 
 -- an index that has room in a frame is that of few blocks
 pub few_blocks : (blocks : List (List Entry)) → length (index_bytes table_keys (handles_from 0 blocks)) < 2 ^ 32 → 12 * length blocks < 2 ^ 32

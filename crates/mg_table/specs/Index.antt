@@ -1,7 +1,8 @@
 -- The index of a table: a handle for each block.
-use Rattle.std.specs.Prelude.{ℕ, ◌+◌, List, [], ◌∷◌, length}
+use Rattle.std.specs.Prelude.{ℕ, ◌+◌, List, length}
 use Rattle.mg_table.specs.Entries.{block_body, first_key}
 use Rattle.mg_types.specs.declared.items.Entry.{Entry}
+use Rattle.mg_indexed.specs.Index.{handles_of}
 use Rattle.mg_indexed.specs.declared.handle.BlockHandle.{BlockHandle}
 
 -- the whole length of a block's frame
@@ -10,6 +11,4 @@ frame_length entries = length (block_body entries) + 20
 
 -- the handles of blocks that stand one after the other from an offset on
 abbrev pub handles_from : ℕ → List (List Entry) → List (BlockHandle (List ℕ))
-handles_from at [] = []
-handles_from at (entries ∷ blocks) =
-    record { first = first_key entries; at = at; len = frame_length entries } ∷ handles_from (at + frame_length entries) blocks
+handles_from at blocks = handles_of first_key frame_length at blocks

@@ -7,7 +7,7 @@ use Rattle.mg_types.specs.declared.names.FileId.{FileId}
 use Rattle.mg_sealed.specs.Answers.{IsOutside}
 use Rattle.mg_frame.specs.Frame.{StandsAt}
 use Rattle.mg_sealed.specs.Reading.{frame_body}
-use Rattle.mg_indexed.specs.Footer.{offset_of}
+use Rattle.mg_indexed.specs.Footer.{footer_size, offset_of}
 use Rattle.mg_indexed.specs.Loading as indexed
 use Rattle.mg_indexed.specs.Loading.{IsFooterRead, IsIndexRead, IsKept}
 use Rattle.mg_indexed.specs.TableKeys.{table_keys}
@@ -29,15 +29,15 @@ abbrev pub IsFilterRefused : FileId → List ℕ → ℕ → ℕ → Fault → T
 IsFilterRefused id bytes at blocks fault =
     (frame_body id bytes at (blocks + 1) ≡ Err fault)
     ⊎ ((body : List ℕ) × (frame_body id bytes at (blocks + 1) ≡ Ok body)
-    × (((at + length body + 20 ≢ length bytes - 73) × (fault ≡ Malformed id (length bytes - 73)))
-    ⊎ ((at + length body + 20 ≡ length bytes - 73) × (IsBodyLength (length body) → ⊥) × (fault ≡ Malformed id at))))
+    × (((at + length body + 20 ≢ length bytes - footer_size true) × (fault ≡ Malformed id (length bytes - footer_size true)))
+    ⊎ ((at + length body + 20 ≡ length bytes - footer_size true) × (IsBodyLength (length body) → ⊥) × (fault ≡ Malformed id at))))
 
 -- the filter behind so many blocks stands where the footer says it, and the footer's frame stands behind it
 pub record IsFilterRead (id : FileId) (bytes : List ℕ) (at blocks : ℕ) (filter : List ℕ) : Type 0 where
   pub body : frame_body id bytes at (blocks + 1) ≡ Ok filter
   pub stands : StandsAt bytes at (blocks + 1, filter)
   pub is_filter : IsBodyLength (length filter)
-  pub ends : at + length filter + 20 ≡ length bytes - 73
+  pub ends : at + length filter + 20 ≡ length bytes - footer_size true
 
 -- A file of these bytes is loaded as this table: what is kept of it is what its last three frames say.
 pub record IsRead {S : Type 0} (id : FileId) (bytes : List ℕ) (table : Table S) : Type 0 where

@@ -16,6 +16,7 @@ use Rattle.mg_types.specs.Items.{IsEntry}
 use Rattle.mg_table.specs.Payload.{judged_payload}
 use Rattle.mg_table.specs.Scanning.{AreCounted, AreHeaded, EndsIn, IsNext}
 use Rattle.mg_sealed.specs.Filling.{items_of, AreFilled}
+use Rattle.mg_indexed.specs.Footer.{footer_size}
 use Rattle.mg_types.specs.declared.items.Entry.{Entry}
 use Rattle.mg_table.specs.declared.entry.Refused.{Refused}
 use Rattle.mg_table.specs.declared.entry.Refused.TheVariants.{Number, Form}
@@ -139,4 +140,4 @@ IsScanRefused table bytes fault =
     × IsBlockRefused table bytes (length before) (λ handle body. IsListUnfit table.indexed.file.id handle.at body) fault)
     ⊎ ((before : List (List Entry)) × AreFirst table bytes before × IsOrderRefused table bytes before fault)
     ⊎ ((blocks : List (List Entry)) × AreFirst table bytes blocks × (length blocks ≡ length table.indexed.index) × (AreCounted table.indexed.footer (items_of blocks) → ⊥)
-    × (fault ≡ Malformed table.indexed.file.id (table.indexed.file.len - 73)))
+    × (fault ≡ Malformed table.indexed.file.id (table.indexed.file.len - footer_size true)))

@@ -1,10 +1,10 @@
 //! Loading a table: its footer, its index and its filter.
 
-ghost use Rattle.std.specs.Prelude.{◌≡◌, ℕ, ◌-◌, ◌<◌, ◌≤◌, ◌^◌, ◌⊎◌, List, length, All, IfErr, IfOk, IfSome, MatchResult, Ok};
+ghost use Rattle.std.specs.Prelude.{◌≡◌, ℕ, ◌-◌, ◌<◌, ◌≤◌, ◌^◌, ◌⊎◌, List, true, length, All, IfErr, IfOk, IfSome, MatchResult, Ok};
 ghost use Rattle.mg_faults.specs.Causes.{CountsOnce, HasCause};
 ghost use Rattle.mg_sealed.specs.Answers.{Answers, IsOutside};
 ghost use Rattle.mg_sealed.specs.Blocks.{IsUnfitAt};
-ghost use Rattle.mg_indexed.specs.Footer.{offset_of};
+ghost use Rattle.mg_indexed.specs.Footer.{footer_size, offset_of};
 ghost use Rattle.mg_table.specs.Loading.{Knows, IsFilterRead, IsFilterRefused, IsRead, IsRefused};
 ghost use Rattle.mg_table.specs.Table.{footer_of, IsTable, Represents};
 ghost use Rattle.mg_types.specs.declared.items.Entry.{Entry};
@@ -13,13 +13,10 @@ use crate::table::Table;
 use mg_bloom::Filter;
 use mg_disk::Files;
 use mg_frame::FRAME_OVERHEAD;
-use mg_indexed::Footer;
+use mg_indexed::{FILTERED_FOOTER_LEN, Footer};
 use mg_sealed::{SealedFile, read_frame};
 use mg_types::{Entry, Fault, FileId, Key};
 use std::alloc::Global;
-
-/// The whole length of a footer's frame in bytes.
-pub(crate) const FOOTER_LEN: u64 = 73;
 
 impl<S: Drop> Table<S> {
     /// Loads a table, of whose file this length in bytes is kept: reads its footer, its index and its filter, and no block.
@@ -67,19 +64,19 @@ fn read_filter<F: Files>(
     blocks: u32,
 ) -> Result<Filter, Fault>
     requires at { at < 2 ^ 62 }
-    requires least { 73 ≤ file.now.len }
+    requires least { footer_size true ≤ file.now.len }
     ensures told { Knows (F.told file.now.file) file.now.len (λ lo hi listed filter. at ≡ offset_of (footer_of lo hi listed filter).filter_at → blocks ≡ length listed →
         Answers (Ok filter) result) }
     ensures read { IfOk result (λ filter. IfSome (F.told file.now.file) (λ bytes. file.now.len ≡ length bytes →
         IsFilterRead file.now.id bytes at blocks filter)) }
     ensures kinds { IfErr result (λ fault. IsOutside fault ⊎ IsUnfitAt file.now.id at fault
-        ⊎ IsUnfitAt file.now.id (file.now.len - 73) fault) }
+        ⊎ IsUnfitAt file.now.id (file.now.len - footer_size true) fault) }
     ensures refusals { IfErr result (λ fault. IfSome (F.told file.now.file) (λ bytes. file.now.len ≡ length bytes →
         IsOutside fault ⊎ IsFilterRefused file.now.id bytes at blocks fault)) }
     ensures cause { HasCause Fault.ReadFault (F.faults port.old) (F.faults port.new) result }
     ensures once { CountsOnce (F.faults port.old) (F.faults port.new) result }
 {
-    let footer_at = file.len - FOOTER_LEN;
+    let footer_at = file.len - FILTERED_FOOTER_LEN;
     let size = footer_at.saturating_sub(at);
     let number = u64::from(blocks) + 1;
     let frame = read_frame(alloc, port, file, at, size as usize, number)?;

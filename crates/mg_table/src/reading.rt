@@ -1,11 +1,12 @@
 //! Finding an entry, and listing all.
 
-ghost use Rattle.std.specs.Prelude.{◌≡◌, ◌+◌, ◌-◌, ◌<◌, ◌≤◌, ◌^◌, ◌⊎◌, ◌↔◌, IsTrue, List, ◌++◌, length, map, All, HoldsAt, IfSome, IfErr, IfOk, OnOk, MatchOption, MatchResult, None, Ok};
+ghost use Rattle.std.specs.Prelude.{◌≡◌, ◌+◌, ◌-◌, ◌<◌, ◌≤◌, ◌^◌, ◌⊎◌, ◌↔◌, IsTrue, true, List, ◌++◌, length, map, All, HoldsAt, IfSome, IfErr, IfOk, OnOk, MatchOption, MatchResult, None, Ok};
 ghost use Rattle.mg_block.specs.Block.{IsBlock, Precedes};
 ghost use Rattle.mg_block.specs.Search.{Finds, Misses};
 ghost use Rattle.mg_bloom.specs.Bloom.{key_words};
 ghost use Rattle.mg_faults.specs.Causes.{CountsOnce, HasCause};
 ghost use Rattle.mg_frame.specs.Frame.{StandsAt};
+ghost use Rattle.mg_indexed.specs.Footer.{footer_size};
 ghost use Rattle.mg_sealed.specs.Answers.{Answers, IsOutside};
 ghost use Rattle.mg_sealed.specs.Blocks.{IsUnfitAt};
 ghost use Rattle.mg_sealed.specs.Filling.{items_of, AreFilled};
@@ -20,11 +21,10 @@ ghost use Rattle.mg_types.specs.declared.items.Entry.{Entry};
 
 use crate::checks::{check_block, check_counts};
 use crate::entry::{Payload, Refused, take_payload};
-use crate::load::FOOTER_LEN;
 use crate::table::Table;
 use mg_block::BlockCursor;
 use mg_bloom::HashedKey;
-use mg_indexed::BlockHandle;
+use mg_indexed::{BlockHandle, FILTERED_FOOTER_LEN};
 use mg_items::Items;
 use mg_sealed::{BLOCK_LIMIT, Block, Blocks, malformed};
 use mg_types::{Entry, Fault, FileId, Key, NUMBER_LIMIT};
@@ -109,7 +109,7 @@ impl<S: Drop> Table<S> {
         ensures whole { IfOk result (λ entries. IfSome (F.Files.told self.now.indexed.file.file) (λ bytes. self.now.indexed.file.len ≡ length bytes →
             IsRead self.now.indexed.file.id bytes self.now → IsTableBut bytes self.now.indexed.footer.low self.now.indexed.footer.high entries self.now.filter)) }
         ensures refusals { IfErr result (λ fault. IsOutside fault ⊎ HasUnfit self.now fault
-            ⊎ (fault ≡ Fault.Malformed self.now.indexed.file.id (self.now.indexed.file.len - 73))) }
+            ⊎ (fault ≡ Fault.Malformed self.now.indexed.file.id (self.now.indexed.file.len - footer_size true))) }
         ensures causes { IfErr result (λ fault. IfSome (F.Files.told self.now.indexed.file.file) (λ bytes. self.now.indexed.file.len ≡ length bytes →
             IsOutside fault ⊎ IsScanRefused self.now bytes fault)) }
         ensures cause { HasCause Fault.ReadFault (F.Files.faults port.old) (F.Files.faults port.new) result }
@@ -130,7 +130,7 @@ impl<S: Drop> Table<S> {
             len = size;
             buffer = frame.into_buffer();
         }
-        let footer_at = self.sealed().len.saturating_sub(FOOTER_LEN);
+        let footer_at = self.sealed().len.saturating_sub(FILTERED_FOOTER_LEN);
         check_counts(id, footer_at, self.indexed.footer(), entries.as_slice())?;
         Ok(entries)
     }

@@ -1,9 +1,9 @@
 ghost use Rattle.std.specs.Prelude.{◌≢◌, [], OnOk};
 
 use super::*;
-use mg_disk::{DiskError, Files};
+use mg_disk::Files;
 use mg_memdisk::{MemDraft, MemFiles, MemSealed};
-use mg_sealed::{Blocks, append_frame, seal_frames, start_frames};
+use mg_sealed::{CountingFiles, append_frame, seal_frames, start_frames};
 use mg_types::{Entry, Fault, FileId, Key, Kind};
 use std::alloc::Global;
 use std::test::Fail;
@@ -365,102 +365,15 @@ fn a_find_judges_the_first_key_of_its_block(rt: HostRuntime) -> Result<(), Fail>
     Ok(())
 }
 
-/// A port that counts its reads and the bytes that they give.
-#[derive(Drop)]
-struct CountingFiles<F> {
-    files: F,
-    reads: u64,
-    bytes: u64,
-}
-
-impl<F> CountingFiles<F> {
-    /// How many reads there were since the last call, and how many bytes they gave.
-    fn take_counts(&mut self) -> (u64, u64) {
-        let counts = (self.reads, self.bytes);
-        self.reads = 0;
-        self.bytes = 0;
-        counts
-    }
-}
-
-impl<F: Files> Blocks for CountingFiles<F> {}
-
-// Each call is one of the port below.
-impl<F: Files> Files for CountingFiles<F> {
-    type Draft = F::Draft;
-
-    type Sealed = F::Sealed;
-
-    ghost drafted = { F.drafted };
-
-    ghost told = { F.told };
-
-    ghost identity = { F.identity };
-
-    ghost faults = { λ port. F.faults port.files };
-
-    ghost bounded = { λ port. F.bounded port.files };
-
-    fn fresh(&mut self, alloc: Global) -> Result<F::Draft, DiskError> {
-        self.files.fresh(alloc)
-    }
-
-    fn append(
-        &mut self,
-        alloc: Global,
-        draft: &mut F::Draft,
-        bytes: &[u8],
-    ) -> Result<(), DiskError> {
-        self.files.append(alloc, draft, bytes)
-    }
-
-    fn seal(&mut self, alloc: Global, draft: F::Draft) -> Result<F::Sealed, DiskError> {
-        self.files.seal(alloc, draft)
-    }
-
-    fn len(&mut self, alloc: Global, file: &F::Sealed) -> Result<u64, DiskError> {
-        self.files.len(alloc, file)
-    }
-
-    fn read(
-        &mut self,
-        alloc: Global,
-        file: &F::Sealed,
-        at: u64,
-        buf: &mut [u8],
-    ) -> Result<usize, DiskError> {
-        self.reads = self.reads.saturating_add(1);
-        let read = self.files.read(alloc, file, at, buf)?;
-        self.bytes = self.bytes.saturating_add(read as u64);
-        Ok(read)
-    }
-
-    fn share(&self, alloc: Global, file: &F::Sealed) -> Result<F::Sealed, DiskError> {
-        self.files.share(alloc, file)
-    }
-
-    fn same(&self, a: &F::Sealed, b: &F::Sealed) -> bool {
-        self.files.same(a, b)
-    }
-
-    fn keeps(&self, file: &F::Sealed) -> bool {
-        self.files.keeps(file)
-    }
-}
-
 #[test]
 fn no_more_bytes_are_read_than_are_wanted(rt: HostRuntime) -> Result<(), Fail> {
     let alloc = rt.alloc();
     let mut files = MemFiles::new(Vec::new(alloc));
     let file = seal(alloc, &mut files, &WORKED)?;
-    let mut port = CountingFiles {
-        files,
-        reads: 0,
-        bytes: 0,
-    };
+    let mut port = CountingFiles::new(files);
     let table = Table::load(alloc, &mut port, ID, file, 189)?;
     // The frames of the footer, of the index and of the filter.
-    assert_eq!(rt; port.take_counts(), (3, 73 + 34 + 28));
+    assert_eq!(rt; port.take_reads(), (3, 73 + 34 + 28));
     for (key, counts) in [
         (b"A".as_slice(), (0, 0)),
         (b"a".as_slice(), (1, 54)),
@@ -470,10 +383,10 @@ fn no_more_bytes_are_read_than_are_wanted(rt: HostRuntime) -> Result<(), Fail> {
             return Err(Fault::BadWords)?;
         };
         table.find(alloc, &mut port, &key)?;
-        assert_eq!(rt; port.take_counts(), counts);
+        assert_eq!(rt; port.take_reads(), counts);
     }
     table.scan(alloc, &mut port)?;
-    assert_eq!(rt; port.take_counts(), (1, 54));
+    assert_eq!(rt; port.take_reads(), (1, 54));
     Ok(())
 }
 
