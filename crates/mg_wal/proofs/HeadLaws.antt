@@ -1,6 +1,6 @@
 -- What the heads of logs are, as their first frames spell them, what they are refused for, and the counts before the oldest log.
-use Rattle.std.proofs.Common.{◌≡◌, ℕ, zero, suc, ◌+◌, ◌-◌, ◌<◌, ◌≤◌, ◌^◌, ◌⊎◌, inl, inr, Bool, true, false, List, [], ◌∷◌, ◌++◌, length, map, get_or, take, drop, replicate, drop-cons, Global, Vec, Result, Ok, Err, Option, None, Some, refl, sym, ap, subst, ◌∙◌, arith, nat_lt}
-use Rattle.std.specs.Prelude.{◌==◌, if◌then◌else◌, IfErr, IfOk}
+use Rattle.std.proofs.Common.{◌≡◌, ℕ, zero, suc, ◌+◌, ◌-◌, ◌<◌, ◌≤◌, ◌^◌, ◌⊎◌, inl, inr, List, [], ◌∷◌, ◌++◌, length, map, get_or, take, drop, replicate, drop-cons, Global, Vec, Result, Ok, Err, None, Some, refl, sym, ap, subst, ◌∙◌, arith}
+use Rattle.std.specs.Prelude.{IfErr, IfOk}
 use Rattle.std.specs.List.{slice_get, AllByRecursion}
 use Rattle.std.proofs.lemmas.List.{map-append, take-append-drop, take_all, take_more}
 use Rattle.std.proofs.lemmas.List.Elements.{All-from_recursion}
@@ -8,7 +8,7 @@ use Rattle.mg_types.specs.declared.faults.Fault.{Fault}
 use Rattle.mg_types.specs.declared.faults.Fault.TheVariants.{NoMemory}
 use Rattle.mg_types.specs.declared.names.FileId.{FileId}
 use Rattle.mg_wal_format.specs.declared.head.Head.{Head}
-use Rattle.mg_wal_format.specs.Faults.{head_fault, numbers_fault, IsHeadRefused, IsNewestHeadFine, IsNewestHeadRefused}
+use Rattle.mg_wal_format.specs.Faults.{IsHeadRefused, IsNewestHeadFine, IsNewestHeadRefused}
 use Rattle.mg_wal_format.specs.Heads.{head_bytes, parts_of, IsSoundHead}
 use Rattle.mg_wal_format.specs.Logs.{HeadsRise, Log}
 use Rattle.mg_wal_format.specs.Recovery.{found_of, log_file, Falls, Found, HasHeads, HasRoom, IsHeadFault, IsHeadsFault, IsNewestFine, IsNewestRefused, IsSoundLog}
@@ -18,7 +18,8 @@ use Rattle.mg_wal_format.proofs.SpellingLaws.{one_head}
 use Rattle.mg_wal.specs.declared.finding.HeadFrame.{HeadFrame}
 use Rattle.mg_wal.specs.declared.known.KnownLog.{KnownLog}
 use Rattle.mg_wal.specs.Book.{AreKept}
-use Rattle.mg_wal.specs.Findings.{head_frame, AreKnown, IsRefusal}
+use Rattle.mg_wal.proofs.RefusalLaws.{named_log, refusal_by, refusal_of_head, refusal_of_newest}
+use Rattle.mg_wal.specs.Findings.{head_frame, AreKnown, IsLogFault, IsRefusalBy}
 use Rattle.mg_wal.specs.Openings.{log_known}
 use Rattle.mg_wal.proofs.StepLaws.{all_append}
 
@@ -176,8 +177,8 @@ heads_fault frames front behind frame known fault split heads why found same =
 
 -- the frame at this place is the first that is refused
 pub heads_stop : (frames : List HeadFrame) (i : ℕ) (frame : HeadFrame) (known : List KnownLog) (fault : Fault) → i < length frames → frame ≡ get_or frames i frame → AreHeads (take i frames) known
-    → IsRefusal fault × ((logs : List Log) (found : Found) → AreKnown known logs → head_frame found ≡ frame → IsHeadFault logs found fault)
-    → IsRefusal fault × ((found : List Found) → map head_frame found ≡ frames → IsHeadsFault found fault)
+    → IsLogFault fault × ((logs : List Log) (found : Found) → AreKnown known logs → head_frame found ≡ frame → IsHeadFault logs found fault)
+    → IsLogFault fault × ((found : List Found) → map head_frame found ≡ frames → IsHeadsFault found fault)
 heads_stop frames i frame known fault within is heads why =
     let split : frames ≡ take i frames ++ frame ∷ drop (suc i) frames =
     sym (take-append-drop i frames) ∙ ap (λ (fs : List HeadFrame). take i frames ++ fs) (drop-cons frames i frame within ∙ ap (λ (f : HeadFrame). f ∷ drop (suc i) frames) (sym is)) in
@@ -185,41 +186,16 @@ heads_stop frames i frame known fault within is heads why =
 
 -- ---- why a head is refused
 
-refused_if : (test : Bool) (one other : Option Fault) (fault : Fault) → ((f : Fault) → one ≡ Some f → IsRefusal f) → ((f : Fault) → other ≡ Some f → IsRefusal f)
-    → (if test then one else other) ≡ Some fault → IsRefusal fault
-refused_if true one other fault ones others is = ones fault is
-refused_if false one other fault ones others is = others fault is
-
-refused_some : (fault other : Fault) → IsRefusal fault → Some fault ≡ Some other → IsRefusal other
-refused_some fault other refusal is = subst IsRefusal (let same : fault ≡ other = cc in same) refusal
-
-numbers_refused : (file : FileId) (at : ℕ) (ns : List ℕ) (fault : Fault) → numbers_fault file at ns ≡ Some fault → IsRefusal fault
-numbers_refused file at [] fault is = absurd cc
-numbers_refused file at (n ∷ ns) fault is = refused_if (nat_lt n (2 ^ 62)) _ _ fault (numbers_refused file at ns) (λ f. refused_some _ f tt) is
-
-head_refused : (file : FileId) (head : Head) (fault : Fault) → head_fault file head ≡ Some fault → IsRefusal fault
-head_refused file head fault is =
-    refused_if (nat_lt file.number (2 ^ 62)) _ _ fault (λ f. refused_if (nat_lt head.first (2 ^ 62)) _ _ f (λ g. refused_if (head.first == 0) _ _ g (λ h. refused_some _ h tt) (numbers_refused file 0 head.before)) (λ g. refused_some _ g tt))
-    (λ f. refused_some _ f tt) is
-
-refusal_of_head : (file : FileId) (body : List ℕ) (fault : Fault) → IsHeadRefused file body fault → IsRefusal fault
-refusal_of_head file body fault (inl (none, is)) = subst IsRefusal (sym is) tt
-refusal_of_head file body fault (inr (head, fits, spelled, is)) = head_refused file head fault is
-
-pub refusal_of_newest : (file : FileId) (parts : ℕ) (body : List ℕ) (fault : Fault) → IsNewestHeadRefused file parts body fault → IsRefusal fault
-refusal_of_newest file parts body fault (inl (none, is)) = subst IsRefusal (sym is) tt
-refusal_of_newest file parts body fault (inr (head, fits, spelled, fewer, is)) = subst IsRefusal (sym is) tt
-
 -- a head that is refused
 head_bad : (logs : List Log) (found : Found) (frame : HeadFrame) (fault : Fault) → head_frame found ≡ frame → IsHeadRefused (log_file frame.number) frame.body fault → IsHeadFault logs found fault
 head_bad logs found frame fault same refused = inl (subst (λ (f : HeadFrame). IsHeadRefused (log_file f.number) f.body fault) (sym same) refused)
 
 -- a body that is refused is the fault of its log, whatever stands before it
 pub frame_refused : (file : FileId) (body : List ℕ) (frame : HeadFrame) (known : List KnownLog) (fault : Fault) → file ≡ log_file frame.number → body ≡ frame.body → IsHeadRefused file body fault
-    → IsRefusal fault × ((logs : List Log) (found : Found) → AreKnown known logs → head_frame found ≡ frame → IsHeadFault logs found fault)
+    → IsLogFault fault × ((logs : List Log) (found : Found) → AreKnown known logs → head_frame found ≡ frame → IsHeadFault logs found fault)
 frame_refused file body frame known fault file_is body_is refused =
     let here : IsHeadRefused (log_file frame.number) frame.body fault = subst (λ (f : FileId). IsHeadRefused f frame.body fault) file_is (subst (λ (b : List ℕ). IsHeadRefused file b fault) body_is refused) in
-    (refusal_of_head file body fault refused, λ logs found are same. head_bad logs found frame fault same here)
+    (refusal_of_head file body fault (named_log file frame.number file_is) refused, λ logs found are same. head_bad logs found frame fault same here)
 
 -- ---- the newest head
 
@@ -233,11 +209,11 @@ newest_at frames newest found is same =
 
 pub newest_refused : (file : FileId) (body : List ℕ) (frames : List HeadFrame) (newest : HeadFrame) (parts : ℕ) (fault : Fault) → Some newest ≡ slice_get frames (length frames - 1)
     → file ≡ log_file newest.number → body ≡ newest.body → IsNewestHeadRefused file parts body fault
-    → IsRefusal fault × ((found : List Found) → map head_frame found ≡ frames → IsNewestRefused parts found fault ⊎ (IsNewestFine parts found × IsHeadsFault found fault))
+    → IsRefusalBy parts fault × ((found : List Found) → map head_frame found ≡ frames → IsNewestRefused parts found fault ⊎ (IsNewestFine parts found × IsHeadsFault found fault))
 newest_refused file body frames newest parts fault is file_is body_is refused =
     let here : IsNewestHeadRefused (log_file newest.number) parts newest.body fault =
     subst (λ (f : FileId). IsNewestHeadRefused f parts newest.body fault) file_is (subst (λ (b : List ℕ). IsNewestHeadRefused file parts b fault) body_is refused) in (
-      refusal_of_newest file parts body fault refused,
+      refusal_of_newest file parts body fault (named_log file newest.number file_is) refused,
       λ found same.
           let m = newest_at frames newest found is same in
           inl (m.0, m.1, m.2, subst (λ (f : HeadFrame). IsNewestHeadRefused (log_file f.number) parts f.body fault) (sym m.3) here),
@@ -284,11 +260,11 @@ judged_ok (Ok known) body frames newest parts is body_is fine heads = judged bod
 judged_ok (Err e) body frames newest parts is body_is fine heads = heads
 
 pub judged_err : {T : Type 0} (result : Result T Fault) (body : List ℕ) (frames : List HeadFrame) (newest : HeadFrame) (parts : ℕ) → Some newest ≡ slice_get frames (length frames - 1) → body ≡ newest.body
-    → IsNewestHeadFine parts body → IfErr result (λ fault. (fault ≡ NoMemory) ⊎ (IsRefusal fault × ((found : List Found) → map head_frame found ≡ frames → IsHeadsFault found fault)))
-    → IfErr result (λ fault. (fault ≡ NoMemory) ⊎ (IsRefusal fault × ((found : List Found) → map head_frame found ≡ frames → IsNewestRefused parts found fault ⊎ (IsNewestFine parts found × IsHeadsFault found fault))))
+    → IsNewestHeadFine parts body → IfErr result (λ fault. (fault ≡ NoMemory) ⊎ (IsLogFault fault × ((found : List Found) → map head_frame found ≡ frames → IsHeadsFault found fault)))
+    → IfErr result (λ fault. (fault ≡ NoMemory) ⊎ (IsRefusalBy parts fault × ((found : List Found) → map head_frame found ≡ frames → IsNewestRefused parts found fault ⊎ (IsNewestFine parts found × IsHeadsFault found fault))))
 judged_err (Ok known) body frames newest parts is body_is fine refused = refused
 judged_err (Err fault) body frames newest parts is body_is fine refused =
-    or_else (λ why. (why.0, λ found same. inr (newest_fine body frames newest parts found is body_is fine same, why.1 found same))) refused
+    or_else (λ why. (refusal_by parts fault why.0, λ found same. inr (newest_fine body frames newest parts found is body_is fine same, why.1 found same))) refused
 
 -- ---- the counts before the oldest log
 

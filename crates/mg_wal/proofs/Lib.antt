@@ -1,6 +1,7 @@
 pub mod BookLaws
 pub mod ClearLaws
 pub mod CountLaws
+pub mod Crossing
 pub mod FindLaws
 pub mod FreshLaws
 pub mod GatherLaws
@@ -12,10 +13,12 @@ pub mod OpeningReach
 pub mod PrefixLaws
 pub mod ReachLaws
 pub mod ReadLaws
+pub mod RefusalLaws
 pub mod RemoveLaws
 pub mod ScanLaws
 pub mod SceneLaws
 pub mod ShareLaws
+pub mod StartLaws
 pub mod StepLaws
 pub mod StoryLaws
 pub mod StrayLaws

@@ -11,7 +11,7 @@ use Rattle.mg_wal.specs.Book.{Book}
 use Rattle.mg_wal.specs.declared.finding.FoundLogs.{FoundLogs}
 use Rattle.mg_wal.specs.declared.finding.HeadFrame.{HeadFrame}
 use Rattle.mg_wal.specs.declared.known.KnownLog.{KnownLog}
-use Rattle.mg_wal.specs.Findings.{head_frame, AreKnown, AreReady, HasFound, IsRefusal, StandIn}
+use Rattle.mg_wal.specs.Findings.{head_frame, AreKnown, AreReady, HasFound, IsRefusalBy, StandIn}
 use Rattle.mg_wal.specs.Openings.{basis_for, log_known, IsFresh, IsNewestName, OpensAs}
 
 -- ---- heads
@@ -86,9 +86,9 @@ stand_found image now parts logs known has tells same =
 -- ---- refusals
 
 pub refused_heads : (image : Image) (parts : ℕ) (logs : FoundLogs) (fault : Fault) → HasFound image logs
-    → (fault ≡ NoMemory) ⊎ (IsRefusal fault × ((found : List Found) → map head_frame found ≡ logs.whole.items → IsNewestRefused parts found fault ⊎ (IsNewestFine parts found × IsHeadsFault found fault)))
-    → IsRefusal fault → IsRefused parts image fault
-refused_heads image parts logs fault has (inl none) refusal = absurd (subst IsRefusal none refusal)
+    → (fault ≡ NoMemory) ⊎ (IsRefusalBy parts fault × ((found : List Found) → map head_frame found ≡ logs.whole.items → IsNewestRefused parts found fault ⊎ (IsNewestFine parts found × IsHeadsFault found fault)))
+    → IsRefusalBy parts fault → IsRefused parts image fault
+refused_heads image parts logs fault has (inl none) refusal = absurd (subst (IsRefusalBy parts) none refusal)
 refused_heads image parts logs fault has (inr (_, why)) refusal = (has.found, has.are, by (why has.found has.whole))
   where
     by : IsNewestRefused parts has.found fault ⊎ (IsNewestFine parts has.found × IsHeadsFault has.found fault) → AreRefused parts has.found fault

@@ -22,7 +22,7 @@ use Rattle.mg_wal_format.proofs.LogLaws.{counts_after-append, IsRecordRefused-sa
 use Rattle.mg_wal_format.proofs.OrderLaws.{InOrder-append}
 use Rattle.mg_wal_format.proofs.SpellingLaws.{length-head_bytes}
 use Rattle.mg_wal.specs.declared.known.KnownLog.{KnownLog}
-use Rattle.mg_wal.specs.Findings.{AreKnown, AreReady, IsRefusal, StandIn}
+use Rattle.mg_wal.specs.Findings.{AreKnown, AreReady, IsLogFault, StandIn}
 use Rattle.mg_wal.specs.Openings.{log_known}
 use Rattle.mg_wal.specs.Streams.{head_end, AreSound, BeginAt, GoesOn, HasWorn, IsJoinFault, IsWindow, StandsAs}
 use Rattle.mg_wal.proofs.CountLaws.{counts_after-same, BeginsWith-same, Gives-same, InOrder-same, Same}
@@ -186,8 +186,8 @@ record_refused parts counts number most bytes at log file limit fault behind nam
     }
 
 -- want of memory is no refusal
-pub if_refused : (fault : Fault) (A B : Type 0) → (fault ≡ NoMemory) ⊎ A → (A → B) → IsRefusal fault → B
-if_refused fault A B (inl none) step is = absurd (subst IsRefusal none is)
+pub if_refused : (fault : Fault) (A B : Type 0) → (fault ≡ NoMemory) ⊎ A → (A → B) → IsLogFault fault → B
+if_refused fault A B (inl none) step is = absurd (subst IsLogFault none is)
 if_refused fault A B (inr a) step is = step a
 
 -- the records of the newest log are refused
@@ -483,9 +483,9 @@ no_memory : NoMemory ≡ ReadFault → ⊥
 no_memory is = cc
 
 -- a fault that is none of reading needs no cause
-pub no_read_fault : {T : Type 0} (before now : ℕ) (other : Result T Fault) (fault : Fault) → before ≤ now → other ≡ Err fault → (fault ≡ NoMemory) ⊎ IsRefusal fault → HasCause ReadFault before now other
+pub no_read_fault : {T : Type 0} (before now : ℕ) (other : Result T Fault) (fault : Fault) → before ≤ now → other ≡ Err fault → (fault ≡ NoMemory) ⊎ IsLogFault fault → HasCause ReadFault before now other
 no_read_fault {T} before now other fault later is kind = subst (HasCause ReadFault before now) (sym is) (record { later = later; failed = λ f. absurd (differs fault kind f) })
   where
-    differs : (f : Fault) → (f ≡ NoMemory) ⊎ IsRefusal f → IsErrOf {T = T} (Err f) ReadFault → ⊥
+    differs : (f : Fault) → (f ≡ NoMemory) ⊎ IsLogFault f → IsErrOf {T = T} (Err f) ReadFault → ⊥
     differs f (inl none) failed = absurd (no_memory (sym none ∙ err_same f ReadFault failed))
-    differs f (inr refusal) failed = absurd (subst IsRefusal (err_same f ReadFault failed) refusal)
+    differs f (inr refusal) failed = absurd (subst IsLogFault (err_same f ReadFault failed) refusal)

@@ -1,5 +1,5 @@
 -- A log that is read in pieces.
-use Rattle.std.proofs.Common.{◌≡◌, ℕ, zero, suc, ◌+◌, ◌-◌, ◌<◌, ◌≤◌, ◌^◌, ◌⊎◌, inl, inr, List, [], ◌∷◌, ◌++◌, length, map, take, drop, get_or, min, Bool, true, false, if◌then◌else◌, nat_lt, ◌==◌, Option, None, Some, Result, Ok, Err, refl, sym, ap, subst, ◌∙◌, arith, append_assoc}
+use Rattle.std.proofs.Common.{◌≡◌, ℕ, zero, suc, ◌+◌, ◌-◌, ◌<◌, ◌≤◌, ◌⊎◌, inl, inr, List, [], ◌∷◌, ◌++◌, length, map, take, drop, get_or, min, Option, Some, Result, Ok, Err, refl, sym, ap, subst, ◌∙◌, arith, append_assoc}
 use Rattle.std.proofs.lemmas.Bool.{cases_lt}
 use Rattle.std.proofs.lemmas.List.{drop-append-le, drop-drop, length-append, length-drop, length-take, map-append, take-append-drop}
 use Rattle.std.specs.Prelude.{IfOk, IfSome}
@@ -12,19 +12,17 @@ use Rattle.mg_frame.proofs.FrameLaws.{length-frame, said_length-frame}
 use Rattle.mg_frame.proofs.FramesLaws.{frames-append}
 use Rattle.mg_frame.proofs.FrontLaws.{none_if_less, said_length-front, too_few, IsTooFew}
 use Rattle.mg_types.specs.declared.faults.Fault.{Fault}
-use Rattle.mg_types.specs.declared.faults.Fault.TheVariants.{Malformed, NoMemory, ReadFault}
 use Rattle.mg_types.specs.declared.names.FileId.{FileId}
 use Rattle.mg_types.specs.declared.names.Name.{Name}
 use Rattle.mg_wal_format.specs.declared.record.Rec.{Rec}
-use Rattle.mg_wal_format.specs.Faults.{mark_fault, record_fault, too_great, IsRecordRefused}
+use Rattle.mg_wal_format.specs.Faults.{IsRecordRefused}
 use Rattle.mg_wal_format.specs.Judging.{GivesUpTo, HasRecords, IsLogRefused}
 use Rattle.mg_wal_format.specs.Logs.{counts_after, entry_of, InOrder}
-use Rattle.mg_wal_format.specs.Records.{counts_in, mark_of, Counts}
+use Rattle.mg_wal_format.specs.Records.{counts_in, Counts}
 use Rattle.mg_wal_format.specs.Recovery.{log_name}
 use Rattle.mg_wal_format.proofs.LogLaws.{counts_after-append, HasRecords-none, IsRecordRefused-same}
 use Rattle.mg_wal_format.proofs.OrderLaws.{InOrder-append}
 use Rattle.mg_wal.specs.declared.known.KnownLog.{KnownLog}
-use Rattle.mg_wal.specs.Findings.{IsRefusal}
 use Rattle.mg_wal.specs.Streams.{head_end, IsWindow}
 use Rattle.mg_wal.proofs.CountLaws.{counts_after-same, InOrder-same}
 
@@ -223,37 +221,3 @@ if_ok (Err e) P Q step is = tt
 
 pub len_of : (image : Image) (name : Name) (log len : ℕ) (bytes : List ℕ) → name ≡ log_name log → image (log_name log) ≡ Some bytes → IfSome (image name) (λ (bs : List ℕ). len ≡ length bs) → len ≡ length bytes
 len_of image name log len bytes named is found = subst (λ (o : Option (List ℕ)). IfSome o (λ (bs : List ℕ). len ≡ length bs)) (ap image named ∙ is) found
-
--- ---- kinds of faults
-
-kind_is : (one fault : Fault) → Some one ≡ Some fault → IsRefusal one → IsRefusal fault
-kind_is one fault is refusal = let same : one ≡ fault = cc in subst IsRefusal same refusal
-
-mark_kind : (file : FileId) (at : ℕ) (mark : Option ℕ) (fault : Fault) → mark_fault file at mark ≡ Some fault → IsRefusal fault
-mark_kind file at None fault is = absurd (cc)
-mark_kind file at (Some mark) fault is = by_test (nat_lt mark (2 ^ 62)) is
-  where
-    by_test : (fits : Bool) → (if fits then None else Some (too_great file at mark)) ≡ Some fault → IsRefusal fault
-    by_test true is = absurd (cc)
-    by_test false is = kind_is (too_great file at mark) fault is tt
-
-record_kind : (file : FileId) (at parts : ℕ) (counts : Counts) (rec : Rec) (fault : Fault) → record_fault file at parts counts rec ≡ Some fault → IsRefusal fault
-record_kind file at parts counts rec fault is = by_tests (nat_lt rec.part parts) (nat_lt rec.change (2 ^ 62)) (rec.change == counts rec.part + 1) is
-  where
-    by_tests : (counted fits next : Bool)
-        → (if counted then (if fits then (if next then mark_fault file at (mark_of rec.what) else Some (Malformed file at)) else Some (too_great file at rec.change)) else Some (Malformed file at)) ≡ Some fault → IsRefusal fault
-    by_tests false fits next is = kind_is (Malformed file at) fault is tt
-    by_tests true false next is = kind_is (too_great file at rec.change) fault is tt
-    by_tests true true false is = kind_is (Malformed file at) fault is tt
-    by_tests true true true is = mark_kind file at (mark_of rec.what) fault is
-
-refused_kind : (file : FileId) (at parts : ℕ) (counts : Counts) (body : List ℕ) (fault : Fault) → IsRecordRefused file at parts counts body fault → IsRefusal fault
-refused_kind file at parts counts body fault (inl (none, is)) = subst IsRefusal (sym is) tt
-refused_kind file at parts counts body fault (inr (rec, fits, spelled, is)) = record_kind file at parts counts rec fault is
-
--- a log is refused for what stands in it
-pub kinds_of : (file : FileId) (base parts : ℕ) (counts : Counts) (number limit : ℕ) (bytes : List ℕ) (at : ℕ) (fault : Fault) → (fault ≡ NoMemory) ⊎ IsLogRefused file base parts counts number limit bytes at fault
-    → (fault ≡ NoMemory) ⊎ (fault ≡ ReadFault) ⊎ IsRefusal fault
-kinds_of file base parts counts number limit bytes at fault (inl none) = inl none
-kinds_of file base parts counts number limit bytes at fault (inr refused) =
-    let r = refused.refused in inr (inr (refused_kind file (base + refused.stop) parts (counts_after counts refused.recs) r.body fault r.why))

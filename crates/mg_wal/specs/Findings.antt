@@ -1,5 +1,5 @@
 -- What an opening reads of a volume, before it changes anything.
-use Rattle.std.specs.Prelude.{◌≡◌, ℕ, ◌+◌, ◌<◌, ◌≤◌, ◌^◌, ◌↔◌, List, [], ◌∷◌, ◌++◌, length, get_or, map, Option, None, Some, IsSome, ⊤}
+use Rattle.std.specs.Prelude.{◌≡◌, ℕ, ◌+◌, ◌<◌, ◌≤◌, ◌^◌, ◌⊎◌, ◌↔◌, List, [], ◌∷◌, ◌++◌, length, get_or, map, Option, None, Some, IsSome, ⊤}
 use Rattle.std.specs.List.{AllByRecursion, Contains}
 use Rattle.mg_disk.specs.declared.errors.DiskError.{DiskError}
 use Rattle.mg_disk.specs.declared.errors.DiskError.TheVariants as disk
@@ -8,18 +8,22 @@ use Rattle.mg_frame.specs.Frame.{frame, said_length, NoFrame}
 use Rattle.mg_types.specs.declared.faults.Fault.{Fault}
 use Rattle.mg_types.specs.declared.faults.Fault.TheVariants.{Damaged, FewerParts, Malformed, NoMemory, ReadFault}
 use Rattle.mg_wal_format.specs.Logs.{Log}
-use Rattle.mg_wal_format.specs.Recovery.{found_of, log_bytes, log_name, low_of, AreLogs, Found, HasHeads, HasRoom, IsStray}
+use Rattle.mg_wal_format.specs.Recovery.{found_of, log_bytes, log_file, log_name, low_of, AreLogs, Found, HasHeads, HasRoom, IsStray}
 use Rattle.mg_wal.specs.declared.finding.FoundLogs.{FoundLogs}
 use Rattle.mg_wal.specs.declared.finding.HeadFrame.{HeadFrame}
 use Rattle.mg_wal.specs.declared.known.KnownLog.{KnownLog}
 use Rattle.mg_wal.specs.Openings.{log_known, IsNewestName}
 
--- a fault for what stands in the logs
-abbrev pub IsRefusal : Fault → Type 0
-IsRefusal (Damaged file at kept found) = ⊤
-IsRefusal (FewerParts asked kept) = ⊤
-IsRefusal (Malformed file at) = ⊤
-IsRefusal other = ⊥
+-- a fault that names a log: a number in it is 2^62 or more, its last record is lower than the next log's head says, or it is malformed otherwise
+abbrev pub IsLogFault : Fault → Type 0
+IsLogFault (Damaged file at kept found) = (file ≡ log_file file.number) × (((found < kept) × (kept < 2 ^ 62)) ⊎ ((2 ^ 62 ≤ kept) × (found ≡ 2 ^ 62)))
+IsLogFault (Malformed file at) = file ≡ log_file file.number
+IsLogFault other = ⊥
+
+-- a fault for what stands in the logs, where so many partitions are asked for: a head counts more of them, or the fault names a log
+abbrev pub IsRefusalBy : ℕ → Fault → Type 0
+IsRefusalBy parts (FewerParts asked kept) = (asked ≡ parts) × (parts < kept) × (kept < 2 ^ 16)
+IsRefusalBy parts other = IsLogFault other
 
 -- what a call answers where a read gave up so
 abbrev pub read_fault : DiskError → Fault

@@ -12,3 +12,4 @@ pub mod Streams
 pub mod Syncs
 pub mod Times
 pub mod Shares
+pub mod Starts

@@ -8,7 +8,8 @@ ghost use Rattle.mg_wal.specs.Stories.{AppendKeeps, BeginKeeps};
 ghost use Rattle.mg_wal.specs.Findings.{read_fault};
 ghost use Rattle.mg_wal.specs.Syncs.{write_fault, Adds, IsLasting, IsUnwritten, KeepsSure};
 
-use mg_disk::{DiskError, Kind, Name, Volume};
+use crate::known::log_name;
+use mg_disk::{DiskError, Volume};
 use mg_types::Fault;
 use std::alloc::Global;
 
@@ -74,10 +75,7 @@ pub(crate) fn begin_log<V: Volume>(
     ensures cause { HasCause Fault.WriteFault (V.faults vol.old) (V.faults vol.new) result }
     ensures once { CountsOnce (V.faults vol.old) (V.faults vol.new) result }
 {
-    let name = Name {
-        kind: Kind::Wal,
-        number,
-    };
+    let name = log_name(number);
     let mut log = vol.new_log(alloc, name).map_err(write_fault)?;
     append_lasting(alloc, vol, &mut log, bytes)?;
     Ok(log)
@@ -92,9 +90,6 @@ pub(crate) fn remove_log<V: Volume>(alloc: Global, vol: &mut V, number: u64) -> 
     ensures cause { HasCause Fault.WriteFault (V.faults vol.old) (V.faults vol.new) result }
     ensures once { CountsOnce (V.faults vol.old) (V.faults vol.new) result }
 {
-    let name = Name {
-        kind: Kind::Wal,
-        number,
-    };
+    let name = log_name(number);
     vol.remove(alloc, name).map_err(write_fault)
 }

@@ -9,8 +9,9 @@ ghost use Rattle.mg_wal_format.specs.Recovery.{log_name};
 ghost use Rattle.mg_wal.specs.Findings.{AreNumbers, HasFound, IsBody, IsFirstBody, IsFirstSize, IsSize};
 
 use crate::devices::read_fault;
+use crate::known::log_name;
 use crate::pieces::read_piece;
-use mg_disk::{Kind, Name, Volume, numbers};
+use mg_disk::{Kind, Volume, numbers};
 use mg_frame::{FRAME_HEADER, Taken, take_frame};
 use mg_items::Items;
 use mg_types::Fault;
@@ -92,10 +93,7 @@ fn read_first<V: Volume>(
     let Some(size) = first_size(alloc, vol, number)? else {
         return Ok(None);
     };
-    let name = Name {
-        kind: Kind::Wal,
-        number,
-    };
+    let name = log_name(number);
     let frame = read_piece(alloc, vol, name, 0, size)?;
     let body = body_of(alloc, &frame, number)?;
     Ok(body)
@@ -121,10 +119,7 @@ fn first_size<V: Volume>(alloc: Global, vol: &mut V, number: u64) -> Result<Opti
     ensures cause { HasCause Fault.ReadFault (V.faults vol.old) (V.faults vol.new) result }
     ensures once { CountsOnce (V.faults vol.old) (V.faults vol.new) result }
 {
-    let name = Name {
-        kind: Kind::Wal,
-        number,
-    };
+    let name = log_name(number);
     let len = vol.log_len(alloc, name).map_err(read_fault)?;
     let header = read_piece(alloc, vol, name, 0, FRAME_HEADER)?;
     Ok(size_by(&header, len, number))

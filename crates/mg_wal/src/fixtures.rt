@@ -6,9 +6,10 @@ ghost use Rattle.mg_wal_format.specs.Records.{mark_of};
 ghost use Rattle.mg_wal.specs.Book.{parts_in};
 ghost use Rattle.mg_wal.specs.States.{book_of};
 
+use crate::known::log_name;
 use crate::recovery::{RecoverError, recover};
 use crate::state::WalState;
-use mg_disk::{DiskError, Host, Kind, Name, Volume, numbers};
+use mg_disk::{DiskError, Host, Kind, Volume, numbers};
 use mg_frame::put_frame;
 use mg_memdisk::{MemHost, MemVolume};
 use mg_model::Change;
@@ -44,10 +45,7 @@ pub(crate) fn has_log<V: Volume>(
     number: u64,
     want: &[u8],
 ) -> Result<bool, Fail> {
-    let name = Name {
-        kind: Kind::Wal,
-        number,
-    };
+    let name = log_name(number);
     if !vol.names(alloc)?.contains(&name) {
         return Ok(false);
     }
@@ -65,10 +63,7 @@ pub(crate) fn log_numbers(alloc: Global, vol: &mut MemVolume) -> Result<Vec<u64>
 
 /// Makes a log of these bytes, by two calls.
 fn put_log(alloc: Global, vol: &mut MemVolume, number: u64, bytes: &[u8]) -> Result<(), DiskError> {
-    let name = Name {
-        kind: Kind::Wal,
-        number,
-    };
+    let name = log_name(number);
     let mut log = vol.new_log(alloc, name)?;
     vol.append(alloc, &mut log, bytes)
 }

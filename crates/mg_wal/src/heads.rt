@@ -5,7 +5,7 @@ ghost use Rattle.mg_wal_format.specs.Heads.{head_bytes, IsSoundHead};
 ghost use Rattle.mg_wal_format.specs.Logs.{Log};
 ghost use Rattle.mg_wal_format.specs.Recovery.{found_of, low_of, Falls, Found, HasHeads, HasRoom, IsHeadFault, IsHeadsFault, IsNewestFine, IsNewestRefused};
 ghost use Rattle.mg_wal.specs.Book.{AreKept};
-ghost use Rattle.mg_wal.specs.Findings.{head_frame, AreKnown, IsRefusal};
+ghost use Rattle.mg_wal.specs.Findings.{head_frame, AreKnown, IsLogFault, IsRefusalBy};
 
 use crate::finding::HeadFrame;
 use crate::known::{KnownLog, log_file};
@@ -22,7 +22,7 @@ pub(crate) fn judge_heads(
 ) -> Result<Vec<KnownLog>, Fault>
     ensures heads { IfOk result (λ known. (found : List Found) → map head_frame found ≡ frames.now
         → (logs : List Log) × (found ≡ map found_of logs) × AreKnown known.items logs × HasHeads logs × HasRoom parts logs) }
-    ensures refused { IfErr result (λ fault. (fault ≡ Fault.NoMemory) ⊎ (IsRefusal fault × ((found : List Found) → map head_frame found ≡ frames.now
+    ensures refused { IfErr result (λ fault. (fault ≡ Fault.NoMemory) ⊎ (IsRefusalBy parts fault × ((found : List Found) → map head_frame found ≡ frames.now
         → IsNewestRefused parts found fault ⊎ (IsNewestFine parts found × IsHeadsFault found fault)))) }
 {
     let Some(newest) = frames.last() else {
@@ -37,7 +37,7 @@ pub(crate) fn judge_heads(
 fn read_heads(alloc: Global, frames: &[HeadFrame]) -> Result<Vec<KnownLog>, Fault>
     ensures heads { IfOk result (λ known. (found : List Found) → map head_frame found ≡ frames.now
         → (logs : List Log) × (found ≡ map found_of logs) × AreKnown known.items logs × HasHeads logs) }
-    ensures refused { IfErr result (λ fault. (fault ≡ Fault.NoMemory) ⊎ (IsRefusal fault × ((found : List Found) → map head_frame found ≡ frames.now
+    ensures refused { IfErr result (λ fault. (fault ≡ Fault.NoMemory) ⊎ (IsLogFault fault × ((found : List Found) → map head_frame found ≡ frames.now
         → IsHeadsFault found fault))) }
 {
     let mut known = Vec::new(alloc);
@@ -56,7 +56,7 @@ fn next_head(alloc: Global, before: &[KnownLog], frame: &HeadFrame) -> Result<He
     ensures number { IfOk result (λ _. frame.now.number < 2 ^ 62) }
     ensures head { IfOk result (λ head. IsSoundHead head × (frame.now.body ≡ head_bytes head)) }
     ensures rises { IfOk result (λ head. (logs : List Log) → AreKnown before.now logs → Falls logs head → ⊥) }
-    ensures refused { IfErr result (λ fault. (fault ≡ Fault.NoMemory) ⊎ (IsRefusal fault × ((logs : List Log) (found : Found) → AreKnown before.now logs
+    ensures refused { IfErr result (λ fault. (fault ≡ Fault.NoMemory) ⊎ (IsLogFault fault × ((logs : List Log) (found : Found) → AreKnown before.now logs
         → head_frame found ≡ frame.now → IsHeadFault logs found fault))) }
 {
     let file = log_file(frame.number);

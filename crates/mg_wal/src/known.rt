@@ -1,9 +1,9 @@
 //! The logs that a crash may leave.
 
 ghost use Rattle.std.specs.Prelude.{◌≡◌};
-ghost use Rattle.mg_wal_format.specs.Recovery.{log_file};
+ghost use Rattle.mg_wal_format.specs.Recovery.{log_file, log_name};
 
-use mg_types::{FileId, Kind};
+use mg_types::{FileId, Kind, Name};
 use mg_wal_format::Head;
 
 /// A log that may stand, and its head.
@@ -15,8 +15,18 @@ pub struct KnownLog {
     pub head: Head,
 }
 
+/// The log with this number, as a volume names it.
+pub(crate) const fn log_name(number: u64) -> Name
+    ensures { result ≡ log_name number }
+{
+    Name {
+        kind: Kind::Wal,
+        number,
+    }
+}
+
 /// The log with this number, as a fault names it.
-pub(crate) const fn log_file(number: u64) -> FileId
+pub const fn log_file(number: u64) -> FileId
     ensures { result ≡ log_file number }
 {
     FileId {

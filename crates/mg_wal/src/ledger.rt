@@ -1,6 +1,6 @@
 //! What a state keeps beside its volume.
 
-ghost use Rattle.std.specs.Prelude.{◌≡◌, ◌+◌, ◌<◌, ◌≤◌, ◌^◌, IsTrue, false, get_or, length};
+ghost use Rattle.std.specs.Prelude.{◌≡◌, ◌+◌, ◌<◌, ◌≤◌, ◌^◌, ℕ, IsTrue, false, get_or, length};
 ghost use Rattle.std.specs.Option.{ForSome};
 ghost use Rattle.mg_wal.specs.Book.{AreKept, IsReady};
 ghost use Rattle.mg_wal.specs.Releases.{Covers};
@@ -211,7 +211,7 @@ impl Ledger {
 }
 
 /// Whether each of these counts is covered by what is released.
-pub(crate) fn covers(released: &[u64], before: &[u64]) -> bool
+fn covers(released: &[u64], before: &[u64]) -> bool
     ensures yes { IsTrue result → Covers released.now before.now }
     ensures no { result ≡ false → Covers released.now before.now → ⊥ }
 {
@@ -221,6 +221,14 @@ pub(crate) fn covers(released: &[u64], before: &[u64]) -> bool
         }
     }
     true
+}
+
+/// Whether both lists have the same count at each place, where those behind the last are 0.
+pub(crate) fn are_same(counts: &[u64], others: &[u64]) -> bool
+    ensures yes { IsTrue result → (part : ℕ) → get_or others.now part 0 ≡ get_or counts.now part 0 }
+    ensures no { result ≡ false → ((part : ℕ) → get_or others.now part 0 ≡ get_or counts.now part 0) → ⊥ }
+{
+    covers(counts, others) && covers(others, counts)
 }
 
 /// The count at this place; 0 behind the last.

@@ -25,8 +25,10 @@ mod strays;
 mod stream;
 #[cfg(test)]
 mod tests;
+#[cfg(test)]
+mod turn_tests;
 
-pub use known::KnownLog;
+pub use known::{KnownLog, log_file};
 pub use named::{LogNames, NamedState, Wal, push_one, share};
 pub use receipt::Receipt;
 pub use recovery::{RecoverError, recover};

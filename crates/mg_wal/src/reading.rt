@@ -8,7 +8,7 @@ ghost use Rattle.mg_wal_format.specs.Logs.{counts_after, InOrder, Log};
 ghost use Rattle.mg_wal_format.specs.Records.{counts_in};
 ghost use Rattle.mg_wal_format.specs.Recovery.{end_of, first_of, last_number, IsRefused};
 ghost use Rattle.mg_wal.specs.Book.{AreKept};
-ghost use Rattle.mg_wal.specs.Findings.{AreKnown, AreReady, IsRefusal};
+ghost use Rattle.mg_wal.specs.Findings.{AreKnown, AreReady, IsRefusalBy};
 ghost use Rattle.mg_wal.specs.Lists.{Books};
 ghost use Rattle.mg_wal.specs.Openings.{IsFresh, OpensAs};
 ghost use Rattle.mg_wal.specs.States.{ledger_book, opened_basis};
@@ -47,9 +47,9 @@ pub(crate) fn read_volume<V: Volume>(
     ensures released { IfOk result (λ read. read.0.ledger.released.items ≡ read.0.low.items) }
     ensures opens { IsTrue V.tells → IfOk result (λ read. OpensAs (V.view vol.old).contents (opened_basis read.0) (ledger_book read.0.ledger)) }
     ensures strays { IsTrue V.tells → IfOk result (λ read. AreStrays (V.view vol.old).contents read.1.items) }
-    ensures refused { IsTrue V.tells → IfErr result (λ fault. IsRefusal fault → IsRefused parts (V.view vol.old).contents fault) }
+    ensures refused { IsTrue V.tells → IfErr result (λ fault. IsRefusalBy parts fault → IsRefused parts (V.view vol.old).contents fault) }
     ensures stays { IsTrue V.tells → Stays (V.view vol.old) (V.view vol.new) }
-    ensures kinds { IfErr result (λ fault. (fault ≡ Fault.NoMemory) ⊎ (fault ≡ Fault.ReadFault) ⊎ IsRefusal fault) }
+    ensures kinds { IfErr result (λ fault. (fault ≡ Fault.NoMemory) ⊎ (fault ≡ Fault.ReadFault) ⊎ IsRefusalBy parts fault) }
     ensures cause { HasCause Fault.ReadFault (V.faults vol.old) (V.faults vol.new) result }
     ensures once { CountsOnce (V.faults vol.old) (V.faults vol.new) result }
 {

@@ -6,7 +6,7 @@ ghost use Rattle.mg_disk.specs.Moments.{LeavesOnly};
 ghost use Rattle.mg_faults.specs.Causes.{raised, CountsOnce, Rose};
 ghost use Rattle.mg_types.specs.declared.faults.Fault.TheVariants.{NoMemory, ReadFault, WriteFault};
 ghost use Rattle.mg_wal_format.specs.Recovery.{Clears, IsLess, IsRefused};
-ghost use Rattle.mg_wal.specs.Findings.{IsRefusal};
+ghost use Rattle.mg_wal.specs.Findings.{IsRefusalBy};
 ghost use Rattle.mg_wal.specs.Lists.{Books};
 ghost use Rattle.mg_wal.specs.Openings.{basis_for, OpensAs};
 ghost use Rattle.mg_wal.specs.States.{book_of, ledger_book, opened_basis, volume_of};
@@ -48,9 +48,9 @@ pub fn recover<V: Volume>(
     ensures since { IsTrue V.tells → IfOk result (λ found. Reaches (basis_for (book_of found.0) found.1.items found.2.items) []
         (V.view vol).moment (book_of found.0).reach (book_of found.0) (V.view (volume_of found.0))) }
     ensures cleared { IsTrue V.tells → IfOk result (λ found. Clears (V.view vol).contents (V.view (volume_of found.0)).contents) }
-    ensures kinds { IfErr result (λ e. (e.fault ≡ NoMemory) ⊎ (e.fault ≡ ReadFault) ⊎ (e.fault ≡ WriteFault) ⊎ IsRefusal e.fault) }
-    ensures refused { IsTrue V.tells → IfErr result (λ e. IsRefusal e.fault → IsRefused parts (V.view vol).contents e.fault) }
-    ensures untouched { IsTrue V.tells → IfErr result (λ e. IsRefusal e.fault ⊎ (e.fault ≡ ReadFault)
+    ensures kinds { IfErr result (λ e. (e.fault ≡ NoMemory) ⊎ (e.fault ≡ ReadFault) ⊎ (e.fault ≡ WriteFault) ⊎ IsRefusalBy parts e.fault) }
+    ensures refused { IsTrue V.tells → IfErr result (λ e. IsRefusalBy parts e.fault → IsRefused parts (V.view vol).contents e.fault) }
+    ensures untouched { IsTrue V.tells → IfErr result (λ e. IsRefusalBy parts e.fault ⊎ (e.fault ≡ ReadFault)
         → LeavesOnly (V.view vol) (V.view e.vol) (λ image. image ≡ (V.view vol).contents)) }
     ensures back { IsTrue V.tells → IfErr result (λ e. LeavesOnly (V.view vol) (V.view e.vol) (IsLess (V.view vol).contents)) }
     ensures wrote { IsTrue V.tells → IfErr result (λ e. e.fault ≡ WriteFault → OpensWithStray parts (V.view vol).contents) }
@@ -91,9 +91,9 @@ fn open<V: Volume>(alloc: Global, vol: &mut V, parts: u16) -> Result<Opened, Fau
     ensures since { IsTrue V.tells → IfOk result (λ opened. Reaches (opened_basis opened) [] (V.view vol.old).moment
         opened.ledger.reach (ledger_book opened.ledger) (V.view vol.new)) }
     ensures cleared { IsTrue V.tells → IfOk result (λ opened. Clears (V.view vol.old).contents (V.view vol.new).contents) }
-    ensures kinds { IfErr result (λ fault. (fault ≡ NoMemory) ⊎ (fault ≡ ReadFault) ⊎ (fault ≡ WriteFault) ⊎ IsRefusal fault) }
-    ensures refused { IsTrue V.tells → IfErr result (λ fault. IsRefusal fault → IsRefused parts (V.view vol.old).contents fault) }
-    ensures untouched { IsTrue V.tells → IfErr result (λ fault. IsRefusal fault ⊎ (fault ≡ ReadFault)
+    ensures kinds { IfErr result (λ fault. (fault ≡ NoMemory) ⊎ (fault ≡ ReadFault) ⊎ (fault ≡ WriteFault) ⊎ IsRefusalBy parts fault) }
+    ensures refused { IsTrue V.tells → IfErr result (λ fault. IsRefusalBy parts fault → IsRefused parts (V.view vol.old).contents fault) }
+    ensures untouched { IsTrue V.tells → IfErr result (λ fault. IsRefusalBy parts fault ⊎ (fault ≡ ReadFault)
         → LeavesOnly (V.view vol.old) (V.view vol.new) (λ image. image ≡ (V.view vol.old).contents)) }
     ensures wrote { IsTrue V.tells → IfErr result (λ fault. fault ≡ WriteFault → OpensWithStray parts (V.view vol.old).contents) }
     ensures back { IsTrue V.tells → LeavesOnly (V.view vol.old) (V.view vol.new) (IsLess (V.view vol.old).contents) }

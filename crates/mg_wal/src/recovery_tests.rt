@@ -4,10 +4,10 @@ ghost use Rattle.std.specs.Prelude.{◌≡◌, ◌<◌, ◌^◌, IfOk, IfSome};
 ghost use Rattle.mg_wal_format.specs.Records.{mark_of};
 
 use crate::fixtures::{frames, has_log, log_numbers, opened, refused, set, volume_with};
-use crate::known::log_file;
+use crate::known::{log_file, log_name};
 use crate::receipt::Receipt;
 use crate::state::WalState;
-use mg_disk::{Kind, Name, Volume};
+use mg_disk::Volume;
 use mg_memdisk::MemVolume;
 use mg_model::Change;
 use mg_types::Fault;
@@ -835,10 +835,7 @@ fn begins_with<V: Volume>(
     number: u64,
     want: &[u8],
 ) -> Result<bool, Fail> {
-    let name = Name {
-        kind: Kind::Wal,
-        number,
-    };
+    let name = log_name(number);
     if !vol.names(alloc)?.contains(&name) {
         return Ok(false);
     }

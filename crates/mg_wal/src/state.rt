@@ -5,6 +5,7 @@ ghost use Rattle.std.specs.Option.{ForSome};
 ghost use Rattle.mg_wal_format.specs.Recovery.{log_name};
 
 use crate::devices::{append_lasting, begin_log, remove_log};
+use crate::known::KnownLog;
 use crate::ledger::Ledger;
 use crate::receipt::Receipt;
 use mg_disk::Volume;
@@ -49,6 +50,21 @@ impl<V: Volume> WalState<V> {
         ensures { result ≡ (book_of self.now).last }
     {
         self.ledger.last
+    }
+
+    /// How many changes the partition has had.
+    pub fn changes(&self, part: u16) -> u64
+        requires { part < parts_in (book_of self.now) }
+        ensures { result ≡ changes_of (book_of self.now) part }
+    {
+        self.ledger.counts[usize::from(part)]
+    }
+
+    /// The logs that a crash may leave, in the order of their numbers.
+    pub fn logs(&self) -> &[KnownLog]
+        ensures { result.now ≡ (book_of self.now).logs }
+    {
+        &self.ledger.logs
     }
 
     /// Spells a change of the partition as the next record, behind those that wait in memory and in place of one that was

@@ -9,15 +9,15 @@ ghost use Rattle.mg_wal_format.specs.Judging.{GivesUpTo, IsLogRefused};
 ghost use Rattle.mg_wal_format.specs.Logs.{counts_after, Gives, InOrder, Log};
 ghost use Rattle.mg_wal_format.specs.Records.{counts_in};
 ghost use Rattle.mg_wal_format.specs.Recovery.{first_of, log_file, log_name, low_of, IsStreamFault};
-ghost use Rattle.mg_wal.specs.Findings.{AreKnown, AreReady, IsRefusal, StandIn};
+ghost use Rattle.mg_wal.specs.Findings.{AreKnown, AreReady, IsLogFault, StandIn};
 ghost use Rattle.mg_wal.specs.Openings.{log_known};
 ghost use Rattle.mg_wal.specs.Streams.{head_end, AreSound, BeginAt, GoesOn, HasWorn, IsJoinFault, IsWindow, StandsAs};
 
 use crate::devices::read_fault;
-use crate::known::{KnownLog, log_file};
-use crate::ledger::covers;
+use crate::known::{KnownLog, log_file, log_name};
+use crate::ledger::are_same;
 use crate::pieces::read_piece;
-use mg_disk::{Kind, Name, Volume};
+use mg_disk::Volume;
 use mg_frame::{FRAME_OVERHEAD, Taken, take_frame};
 use mg_types::{Fault, FileId, NUMBER_LIMIT};
 use mg_wal_format::{Rec, read_log};
@@ -46,15 +46,9 @@ struct Part {
 /// How many bytes of a log are read at once, unless one frame has more.
 const PIECE: u64 = 65536;
 
-/// The log of this number, as a volume names it.
-fn log_name(number: u64) -> Name
-    ensures { result ≡ log_name number }
-{
-    Name {
-        kind: Kind::Wal,
-        number,
-    }
-}
+/// How many bytes of a head's body stand before its counts: the format, the number of the first record and the number of
+/// partitions, in 1, 8 and 2 bytes.
+const BEFORE_COUNTS: usize = 11;
 
 /// The offset behind the frame of a log's head, or the length of a log that is too short for it.
 fn head_end(log: &KnownLog, len: u64) -> u64
@@ -62,7 +56,7 @@ fn head_end(log: &KnownLog, len: u64) -> u64
     ensures { result ≡ head_end log.now len }
 {
     let parts = log.head.before.len();
-    len.min((FRAME_OVERHEAD + 11 + 8 * parts) as u64)
+    len.min((FRAME_OVERHEAD + BEFORE_COUNTS + 8 * parts) as u64)
 }
 
 /// A piece of a log of this length from an offset on: long enough to tell whether a frame of that number begins there.
@@ -116,10 +110,10 @@ fn read_up_to<V: Volume>(
         → IfOk result (λ part. (part.len ≡ length bytes)
         × GivesUpTo (length counts.items) (counts_in counts.items) log.now.head.first limit bytes (head_end log.now (length bytes)) part.records.items part.stop) }
     ensures refused { IsTrue V.tells → (bytes : List ℕ) → (V.view vol.old).contents (log_name log.now.number) ≡ Some bytes
-        → IfErr result (λ fault. IsRefusal fault
+        → IfErr result (λ fault. IsLogFault fault
         → IsLogRefused (log_file log.now.number) 0 (length counts.items) (counts_in counts.items) log.now.head.first limit bytes (head_end log.now (length bytes)) fault) }
     ensures stays { IsTrue V.tells → Stays (V.view vol.old) (V.view vol.new) }
-    ensures kinds { IfErr result (λ fault. (fault ≡ Fault.NoMemory) ⊎ (fault ≡ Fault.ReadFault) ⊎ IsRefusal fault) }
+    ensures kinds { IfErr result (λ fault. (fault ≡ Fault.NoMemory) ⊎ (fault ≡ Fault.ReadFault) ⊎ IsLogFault fault) }
     ensures cause { HasCause Fault.ReadFault (V.faults vol.old) (V.faults vol.new) result }
     ensures once { CountsOnce (V.faults vol.old) (V.faults vol.new) result }
 {
@@ -185,9 +179,9 @@ fn read_last<V: Volume>(
     ensures gives { IsTrue V.tells → (found : Log) → StandsAs (V.view vol.old).contents log.now found
         → IfOk result (λ part. GoesOn (length counts.items) (counts_in counts.items) log.now.head.first (found ∷ []) part.records.items []) }
     ensures refused { IsTrue V.tells → (found : Log) → StandsAs (V.view vol.old).contents log.now found
-        → IfErr result (λ fault. IsRefusal fault → IsStreamFault (length counts.items) (counts_in counts.items) log.now.head.first (found ∷ []) fault) }
+        → IfErr result (λ fault. IsLogFault fault → IsStreamFault (length counts.items) (counts_in counts.items) log.now.head.first (found ∷ []) fault) }
     ensures stays { IsTrue V.tells → Stays (V.view vol.old) (V.view vol.new) }
-    ensures kinds { IfErr result (λ fault. (fault ≡ Fault.NoMemory) ⊎ (fault ≡ Fault.ReadFault) ⊎ IsRefusal fault) }
+    ensures kinds { IfErr result (λ fault. (fault ≡ Fault.NoMemory) ⊎ (fault ≡ Fault.ReadFault) ⊎ IsLogFault fault) }
     ensures cause { HasCause Fault.ReadFault (V.faults vol.old) (V.faults vol.new) result }
     ensures once { CountsOnce (V.faults vol.old) (V.faults vol.new) result }
 {
@@ -219,7 +213,7 @@ fn check_next(log: &KnownLog, next: &KnownLog, part: &Part) -> Result<(), Fault>
         });
     }
     let before = next.head.before.as_slice();
-    if !covers(&part.counts, before) || !covers(before, &part.counts) {
+    if !are_same(&part.counts, before) {
         return Err(Fault::Malformed {
             file: log_file(next.number),
             at: 0,
@@ -247,9 +241,9 @@ fn read_before<V: Volume>(
     ensures gives { IsTrue V.tells → (found follower : Log) (others : List Log) → StandsAs (V.view vol.old).contents log.now found → log_known follower ≡ next.now
         → IfOk result (λ part. GoesOn (length counts.items) (counts_in counts.items) log.now.head.first (found ∷ follower ∷ others) part.records.items (follower ∷ others)) }
     ensures refused { IsTrue V.tells → (found follower : Log) (others : List Log) → StandsAs (V.view vol.old).contents log.now found → log_known follower ≡ next.now
-        → IfErr result (λ fault. IsRefusal fault → IsStreamFault (length counts.items) (counts_in counts.items) log.now.head.first (found ∷ follower ∷ others) fault) }
+        → IfErr result (λ fault. IsLogFault fault → IsStreamFault (length counts.items) (counts_in counts.items) log.now.head.first (found ∷ follower ∷ others) fault) }
     ensures stays { IsTrue V.tells → Stays (V.view vol.old) (V.view vol.new) }
-    ensures kinds { IfErr result (λ fault. (fault ≡ Fault.NoMemory) ⊎ (fault ≡ Fault.ReadFault) ⊎ IsRefusal fault) }
+    ensures kinds { IfErr result (λ fault. (fault ≡ Fault.NoMemory) ⊎ (fault ≡ Fault.ReadFault) ⊎ IsLogFault fault) }
     ensures cause { HasCause Fault.ReadFault (V.faults vol.old) (V.faults vol.new) result }
     ensures once { CountsOnce (V.faults vol.old) (V.faults vol.new) result }
 {
@@ -275,9 +269,9 @@ fn read_records<V: Volume>(
     ensures gives { IsTrue V.tells → (found : Log) (behind : List Log) → StandsAs (V.view vol.old).contents log.now found → AreKnown others.now behind
         → IfOk result (λ part. GoesOn (length counts.items) (counts_in counts.items) log.now.head.first (found ∷ behind) part.records.items behind) }
     ensures refused { IsTrue V.tells → (found : Log) (behind : List Log) → StandsAs (V.view vol.old).contents log.now found → AreKnown others.now behind
-        → IfErr result (λ fault. IsRefusal fault → IsStreamFault (length counts.items) (counts_in counts.items) log.now.head.first (found ∷ behind) fault) }
+        → IfErr result (λ fault. IsLogFault fault → IsStreamFault (length counts.items) (counts_in counts.items) log.now.head.first (found ∷ behind) fault) }
     ensures stays { IsTrue V.tells → Stays (V.view vol.old) (V.view vol.new) }
-    ensures kinds { IfErr result (λ fault. (fault ≡ Fault.NoMemory) ⊎ (fault ≡ Fault.ReadFault) ⊎ IsRefusal fault) }
+    ensures kinds { IfErr result (λ fault. (fault ≡ Fault.NoMemory) ⊎ (fault ≡ Fault.ReadFault) ⊎ IsLogFault fault) }
     ensures cause { HasCause Fault.ReadFault (V.faults vol.old) (V.faults vol.new) result }
     ensures once { CountsOnce (V.faults vol.old) (V.faults vol.new) result }
 {
@@ -303,10 +297,10 @@ pub(crate) fn read_stream<V: Volume>(
     ensures parts { IfOk result (λ stream. length stream.counts.items ≡ length low.now) }
     ensures gives { IsTrue V.tells → IfOk result (λ stream. (logs : List Log) → AreKnown known.now logs → StandIn (V.view vol.old).contents logs
         → Gives (length low.now) (low_of logs) (first_of logs) logs stream.records.items) }
-    ensures refused { IsTrue V.tells → IfErr result (λ fault. IsRefusal fault → (logs : List Log) → AreKnown known.now logs → StandIn (V.view vol.old).contents logs
+    ensures refused { IsTrue V.tells → IfErr result (λ fault. IsLogFault fault → (logs : List Log) → AreKnown known.now logs → StandIn (V.view vol.old).contents logs
         → IsStreamFault (length low.now) (low_of logs) (first_of logs) logs fault) }
     ensures stays { IsTrue V.tells → Stays (V.view vol.old) (V.view vol.new) }
-    ensures kinds { IfErr result (λ fault. (fault ≡ Fault.NoMemory) ⊎ (fault ≡ Fault.ReadFault) ⊎ IsRefusal fault) }
+    ensures kinds { IfErr result (λ fault. (fault ≡ Fault.NoMemory) ⊎ (fault ≡ Fault.ReadFault) ⊎ IsLogFault fault) }
     ensures cause { HasCause Fault.ReadFault (V.faults vol.old) (V.faults vol.new) result }
     ensures once { CountsOnce (V.faults vol.old) (V.faults vol.new) result }
 {

@@ -4,9 +4,10 @@ ghost use Rattle.mg_wal.specs.Book.{parts_in};
 ghost use Rattle.mg_wal.specs.States.{book_of};
 
 use crate::fixtures::{frames, has_log, opened, set, volume_with};
+use crate::known::log_name;
 use crate::receipt::Receipt;
 use crate::state::WalState;
-use mg_disk::{Kind, Name, Volume};
+use mg_disk::Volume;
 use mg_frame::put_frame;
 use mg_memdisk::MemVolume;
 use mg_model::Change;
@@ -283,10 +284,7 @@ fn has_logs(alloc: Global, vol: &mut MemVolume, logs: [bool; 3]) -> Result<bool,
     let mut number = 0u64;
     for there in &logs {
         number = number.wrapping_add(1);
-        let name = Name {
-            kind: Kind::Wal,
-            number,
-        };
+        let name = log_name(number);
         if names.contains(&name) != *there {
             return Ok(false);
         }

@@ -3,7 +3,7 @@ use Rattle.std.proofs.lemmas.Grind.{common_steps}
 use Rattle.mg_types.specs.declared.faults.Fault.TheVariants.{NoMemory}
 use Rattle.mg_wal_format.specs.Recovery.{Found, IsHeadsFault, IsNewestFine, IsNewestRefused}
 use Rattle.mg_wal_format.proofs.ReadingLaws.{err_is, or_else}
-use Rattle.mg_wal.specs.Findings.{head_frame, IsRefusal}
+use Rattle.mg_wal.specs.Findings.{head_frame, IsRefusalBy}
 use Rattle.mg_wal.proofs.HeadLaws.{judged_err, judged_none, judged_ok, newest_refused}
 use Rattle.mg_wal.proofs.heads.judge_heads.Goals as goal
 
@@ -16,7 +16,7 @@ returns-in_err-check_newest-clause-refused c =
     let frames = c.args.frames.now in
     let parts = c.args.parts in
     err_is c.from_residual.result fault
-    (λ f. (f ≡ NoMemory) ⊎ (IsRefusal f × ((found : List Found) → map head_frame found ≡ frames → IsNewestRefused parts found f ⊎ (IsNewestFine parts found × IsHeadsFault found f))))
+    (λ f. (f ≡ NoMemory) ⊎ (IsRefusalBy parts f × ((found : List Found) → map head_frame found ≡ frames → IsNewestRefused parts found f ⊎ (IsNewestFine parts found × IsHeadsFault found f))))
     (grind (arith, common_steps))
     (or_else (newest_refused c.log_file-file.result c.as_slice.result.now frames c.in-Some.newest.now parts fault c.in-Some.ensures.value c.log_file-file.ensures c.as_slice.ensures) c.in_err-check_newest.ensures.refusals)
 

@@ -4,7 +4,7 @@ use Rattle.mg_types.specs.declared.faults.Fault.TheVariants.{NoMemory}
 use Rattle.mg_wal_format.specs.Logs.{Log}
 use Rattle.mg_wal_format.specs.Recovery.{Found, IsHeadFault}
 use Rattle.mg_wal_format.proofs.ReadingLaws.{err_is, or_else}
-use Rattle.mg_wal.specs.Findings.{head_frame, AreKnown, IsRefusal}
+use Rattle.mg_wal.specs.Findings.{head_frame, AreKnown, IsLogFault}
 use Rattle.mg_wal.proofs.HeadLaws.{frame_refused}
 use Rattle.mg_wal.proofs.heads.next_head.Goals as goal
 
@@ -14,6 +14,6 @@ returns-in_err-head-clause-refused c =
     let frame = c.args.frame.now in
     let before = c.args.before.now in
     err_is c.from_residual.result fault
-    (λ f. (f ≡ NoMemory) ⊎ (IsRefusal f × ((logs : List Log) (found : Found) → AreKnown before logs → head_frame found ≡ frame → IsHeadFault logs found f)))
+    (λ f. (f ≡ NoMemory) ⊎ (IsLogFault f × ((logs : List Log) (found : Found) → AreKnown before logs → head_frame found ≡ frame → IsHeadFault logs found f)))
     (grind (arith, common_steps))
     (or_else (frame_refused c.log_file-file.result c.as_slice.result.now frame before fault c.log_file-file.ensures c.as_slice.ensures) c.in_err-head.ensures.refusals)

@@ -3,7 +3,7 @@ use Rattle.std.proofs.lemmas.Grind.{common_steps}
 use Rattle.mg_types.specs.declared.faults.Fault.TheVariants.{NoMemory}
 use Rattle.mg_wal_format.specs.Recovery.{Found, IsHeadsFault}
 use Rattle.mg_wal_format.proofs.ReadingLaws.{err_is, or_else}
-use Rattle.mg_wal.specs.Findings.{head_frame, IsRefusal}
+use Rattle.mg_wal.specs.Findings.{head_frame, IsLogFault}
 use Rattle.mg_wal.proofs.HeadLaws.{heads_all, heads_none, heads_step, heads_stop}
 use Rattle.mg_wal.proofs.heads.read_heads.Goals as goal
 
@@ -16,7 +16,7 @@ returns-in_err-head-clause-refused c =
     let frames = c.args.frames.now in
     let l = c.loop-frame in
     err_is c.from_residual.result fault
-    (λ f. (f ≡ NoMemory) ⊎ (IsRefusal f × ((found : List Found) → map head_frame found ≡ frames → IsHeadsFault found f)))
+    (λ f. (f ≡ NoMemory) ⊎ (IsLogFault f × ((found : List Found) → map head_frame found ≡ frames → IsHeadsFault found f)))
     (grind (arith, common_steps))
     (or_else (heads_stop frames l.frame-index c.frame-item.result l.known.items fault c.loop-frame-test.true c.frame-item.is l.invariant) (rw c.deref.ensures.value at c.in_err-head.ensures.refused))
 

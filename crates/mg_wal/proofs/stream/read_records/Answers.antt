@@ -3,7 +3,7 @@ use Rattle.mg_types.specs.declared.faults.Fault.{Fault}
 use Rattle.mg_wal_format.specs.Logs.{Log}
 use Rattle.mg_wal_format.specs.Records.{counts_in}
 use Rattle.mg_wal_format.specs.Recovery.{IsStreamFault}
-use Rattle.mg_wal.specs.Findings.{IsRefusal}
+use Rattle.mg_wal.specs.Findings.{IsLogFault}
 use Rattle.mg_wal.specs.declared.stream.Part.{Part}
 use Rattle.mg_wal.specs.Streams.{GoesOn}
 use Rattle.mg_wal.proofs.StreamLaws.{sound_first, sound_next, with_follower, without_follower}
@@ -31,7 +31,7 @@ returns-in-Some-clause-gives g c tells found behind stands known =
 pub returns-in-Some-clause-refused : goal.returns-in-Some-clause-refused
 returns-in-Some-clause-refused g c tells found behind stands known =
     let counts = c.args.counts.items in
-    with_follower (λ (ls : List Log). IfErr c.read_before.result (λ (fault : Fault). IsRefusal fault → IsStreamFault (length counts) (counts_in counts) c.args.log.now.head.first (found ∷ ls) fault))
+    with_follower (λ (ls : List Log). IfErr c.read_before.result (λ (fault : Fault). IsLogFault fault → IsStreamFault (length counts) (counts_in counts) c.args.log.now.head.first (found ∷ ls) fault))
     c.args.others.now c.in-Some.next.now behind c.in-Some.ensures.value known
     (λ follower rest follows. c.read_before.ensures.refused tells found follower rest stands follows)
 
@@ -44,5 +44,5 @@ returns-in-None-clause-gives g c tells found behind stands known =
 pub returns-in-None-clause-refused : goal.returns-in-None-clause-refused
 returns-in-None-clause-refused g c tells found behind stands known =
     let counts = c.args.counts.items in
-    without_follower (λ (ls : List Log). IfErr c.read_last.result (λ (fault : Fault). IsRefusal fault → IsStreamFault (length counts) (counts_in counts) c.args.log.now.head.first (found ∷ ls) fault))
+    without_follower (λ (ls : List Log). IfErr c.read_last.result (λ (fault : Fault). IsLogFault fault → IsStreamFault (length counts) (counts_in counts) c.args.log.now.head.first (found ∷ ls) fault))
     c.args.others.now behind c.in-None.ensures.value known (c.read_last.ensures.refused tells found stands)

@@ -7,7 +7,7 @@ use Rattle.mg_wal_format.specs.Logs.{counts_after, InOrder, Log}
 use Rattle.mg_wal_format.specs.Records.{counts_in}
 use Rattle.mg_wal_format.specs.Recovery.{first_of, log_name, low_of, IsStreamFault}
 use Rattle.mg_wal_format.proofs.ReadingLaws.{err_is}
-use Rattle.mg_wal.specs.Findings.{AreKnown, IsRefusal, StandIn}
+use Rattle.mg_wal.specs.Findings.{AreKnown, IsLogFault, StandIn}
 use Rattle.mg_wal.specs.Streams.{AreSound, BeginAt, GoesOn, StandsAs}
 use Rattle.mg_wal.proofs.ReadLaws.{ok_cause, once_on, once_same, stays_both}
 use Rattle.mg_wal.proofs.StreamLaws.{begins_first, begins_more, cause_handed, counts_more, fault_read, goes_none, goes_read, leads, leads_there, no_read_fault, order_more, sound_behind, stays_self, stream_gives, stream_refused}
@@ -57,7 +57,7 @@ returns-in_err-part-clause-refused g c tells =
     let split = c.in-Some.ensures.cases.0 in
     let fault = c.in_err-part.field-0.0 in
     err_is c.from_residual-in_err-part.result fault
-    (λ (f : Fault). IsRefusal f → (logs : List Log) → AreKnown c.args.known.now logs → StandIn image logs → IsStreamFault (length low) (low_of logs) (first_of logs) logs f) (grind (arith, common_steps))
+    (λ (f : Fault). IsLogFault f → (logs : List Log) → AreKnown c.args.known.now logs → StandIn image logs → IsStreamFault (length low) (low_of logs) (first_of logs) logs f) (grind (arith, common_steps))
     (λ refusal logs are stand.
     let left = i.goes tells logs are stand in
     let l = leads image known others c.loop-log.rest.now left.0 split left.1 left.2 in

@@ -10,12 +10,13 @@ use Rattle.mg_wal_format.specs.Logs.{counts_after, InOrder}
 use Rattle.mg_wal_format.specs.Records.{counts_in}
 use Rattle.mg_wal_format.specs.Recovery.{log_file, log_name}
 use Rattle.mg_wal_format.proofs.ReadingLaws.{err_is}
-use Rattle.mg_wal.specs.Findings.{IsRefusal}
+use Rattle.mg_wal.specs.Findings.{IsLogFault}
 use Rattle.mg_wal.specs.Streams.{head_end, IsWindow}
 use Rattle.mg_wal.proofs.StoryLaws.{of_named_value, of_value}
 use Rattle.mg_wal.proofs.ReadLaws.{once_on, once_same, stays_both}
+use Rattle.mg_wal.proofs.RefusalLaws.{kinds_of, named_log}
 use Rattle.mg_wal.proofs.StreamLaws.{counts_more, if_refused, order_more}
-use Rattle.mg_wal.proofs.WindowLaws.{ends_here, kinds_of, len_of, log_begins, records_more, refused_more}
+use Rattle.mg_wal.proofs.WindowLaws.{ends_here, len_of, log_begins, records_more, refused_more}
 use Rattle.mg_wal.proofs.stream.read_up_to.Goals as goal
 
 pub loop-number-init : goal.loop-number-init
@@ -56,7 +57,7 @@ returns-in_err-read-clause-refused g c tells bytes stands =
     let fault = c.in_err-read.field-0.0 in
     let s = i.stands tells bytes stands in
     let w = c.in_ok-window.ensures.window tells bytes (ap (λ image. image (log_name known.number)) (i.stays tells).contents ∙ stands) (sym s.0) in
-    err_is c.from_residual-in_err-read.result fault (λ (f : Fault). IsRefusal f → IsLogRefused (log_file known.number) 0 (length counts) (counts_in counts) known.head.first c.args.limit bytes at f) (grind (arith, common_steps))
+    err_is c.from_residual-in_err-read.result fault (λ (f : Fault). IsLogFault f → IsLogRefused (log_file known.number) 0 (length counts) (counts_in counts) known.head.first c.args.limit bytes at f) (grind (arith, common_steps))
     (if_refused fault _ _ c.in_err-read.ensures.refusals
     (λ refused. subst (λ file. IsLogRefused file 0 (length counts) (counts_in counts) known.head.first c.args.limit bytes at fault) c.log_file-file.ensures
     (refused_more c.log_file-file.result counts l.counts.items known.head.first l.number c.args.limit bytes c.deref.result.now at l.stop w.count l.records.items fault s.1 i.counts i.parts i.numbers
@@ -68,7 +69,7 @@ returns-in_err-read-clause-stays g c tells =
 
 pub returns-in_err-read-clause-kinds : goal.returns-in_err-read-clause-kinds
 returns-in_err-read-clause-kinds g c =
-    err_is c.from_residual-in_err-read.result c.in_err-read.field-0.0 (λ (f : Fault). (f ≡ NoMemory) ⊎ (f ≡ ReadFault) ⊎ IsRefusal f) (grind (arith, common_steps)) (kinds_of _ _ _ _ _ _ _ _ _ c.in_err-read.ensures.refusals)
+    err_is c.from_residual-in_err-read.result c.in_err-read.field-0.0 (λ (f : Fault). (f ≡ NoMemory) ⊎ (f ≡ ReadFault) ⊎ IsLogFault f) (grind (arith, common_steps)) (kinds_of c.log_file-file.result _ _ _ _ _ _ _ _ (named_log c.log_file-file.result c.args.log.now.number c.log_file-file.ensures) c.in_err-read.ensures.refusals)
 
 pub returns-in_err-read-clause-once : goal.returns-in_err-read-clause-once
 returns-in_err-read-clause-once g c = once_same _ _ c.from_residual-in_err-read.result (g.met.V.Volume.bounded c.args.vol.now) (c.in_ok-window.ensures.once.kept ∙ c.loop-number.invariant.same)
