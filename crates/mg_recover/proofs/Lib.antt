@@ -1,0 +1,10 @@
+pub mod RunLemmas
+pub mod StepLemmas
+pub mod StandLemmas
+pub mod GivesLemmas
+pub mod MadeLaws
+pub mod OpenLaws
+pub mod PlaceLaws
+pub mod ReplayLaws
+mod CutLemmas
+mod OneCut
