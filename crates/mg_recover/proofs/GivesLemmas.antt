@@ -18,7 +18,7 @@ use Rattle.mg_wal.specs.Lists.{Books, IsNextOf, KeepsBooks, KeepsBooksWith}
 use Rattle.mg_wal.specs.Stories.{KeepsReach, KeepsReachWith, Reaches}
 use Rattle.mg_recover.specs.declared.partition.Partition.{Partition}
 use Rattle.mg_recover.specs.Answers.{IsCallFault, IsChangeFault, IsServed}
-use Rattle.mg_recover.specs.Steps.{made_by, Gives, IsNoWrite, IsStep, KeepsBooksBy, KeepsReachBy}
+use Rattle.mg_recover.specs.Steps.{made_by, Gives, IsNoWrite, IsStep, KeepsBooksBy, KeepsReachBy, Tries}
 use Rattle.mg_recover.specs.Stores.{new_partition, part_at, AllSynced}
 
 -- what was read at a place
@@ -28,14 +28,15 @@ part_read was i part p e l at = get_or_read was i p (subst (λ n. n < length was
 -- the log did so, and one partition was set
 pub gives_by : (part i : ℕ) (call : Call) (given : Result Reply Fault) (old new : Book) (was : List Partition) (p p' : Partition)
     → i ≡ part → part < length was → p ≡ get_or was i p → IsStep p.plain call given p'.plain → p'.places ≡ p.places
-    → parts_in new ≡ parts_in old → new.released ≡ old.released → KeepsBooksBy (made_by part call given) old new → IfErr given (IsCallFault old part p.plain call) → (call ≡ Sync → OnOk given (AllSynced new))
+    → parts_in new ≡ parts_in old → new.released ≡ old.released → Tries call old new → KeepsBooksBy (made_by part call given) old new → IfErr given (IsCallFault old part p.plain call) → (call ≡ Sync → OnOk given (AllSynced new))
     → Gives part call given old new was (set was i p')
-gives_by part i call given old new was p p' e l at step_is places_are parts_are released_are keeps why sure =
+gives_by part i call given old new was p p' e l at step_is places_are parts_are released_are tries_are keeps why sure =
     let here : p ≡ part_at was part = part_read was i part p e l at in
     let there : part_at (set was i p') part ≡ p' = ap (λ n. part_at (set was n p') part) e ∙ get_or-set_same was part p' new_partition l in
     record {
       parts = parts_are;
       released = released_are;
+      tries = tries_are;
       books = keeps;
       step = subst (λ (q : Partition). IsStep (part_at was part).plain call given q.plain) (sym there) (subst (λ (q : Partition). IsStep q.plain call given p'.plain) here step_is);
       places = ap (λ (q : Partition). q.places) there ∙ places_are ∙ ap (λ (q : Partition). q.places) here;
@@ -46,12 +47,13 @@ gives_by part i call given old new was p p' e l at step_is places_are parts_are 
 
 -- the log did so, and the partitions are as before, after a fault
 pub gives_none : (part : ℕ) (call : Call) (f : Fault) (old new : Book) (was : List Partition)
-    → parts_in new ≡ parts_in old → new.released ≡ old.released → KeepsBooksBy (made_by part call (Err f)) old new → IsCallFault old part (part_at was part).plain call f
+    → parts_in new ≡ parts_in old → new.released ≡ old.released → Tries call old new → KeepsBooksBy (made_by part call (Err f)) old new → IsCallFault old part (part_at was part).plain call f
     → Gives part call (Err f) old new was was
-gives_none part call f old new was parts_are released_are keeps why =
+gives_none part call f old new was parts_are released_are tries_are keeps why =
     record {
       parts = parts_are;
       released = released_are;
+      tries = tries_are;
       books = keeps;
       step = refl;
       places = refl;
@@ -117,11 +119,24 @@ read_faults book part s call (Err f) r why = read_fault book part s call f r why
 no_sync : (call : Call) → is_read call ≡ true → call ≡ Sync → ⊥
 no_sync call r e = let other : is_read Sync ≡ true = ap is_read (sym e) ∙ r in absurd cc
 
+read_tries : (call : Call) (book : Book) → is_read call ≡ true → Tries call book book
+read_tries (Set key doc) book r = absurd cc
+read_tries (Del key) book r = absurd cc
+read_tries (Get key) book r = refl
+read_tries (Feed epoch after limit) book r = refl
+read_tries Mark book r = refl
+read_tries (Forget mark) book r = refl
+read_tries (Rollback to) book r = refl
+read_tries Clear book r = refl
+read_tries Sync book r = absurd cc
+read_tries (Compact through) book r = refl
+read_tries Stats book r = refl
+
 pub read_gives : (part i : ℕ) (call : Call) (given : Result Reply Fault) (book : Book) (was : List Partition) (p p' : Partition)
     → i ≡ part → part < length was → p ≡ get_or was i p → is_read call ≡ true → IsStep p.plain call given p'.plain → p'.places ≡ p.places → IfErr given (λ f. f ≡ NoMemory)
     → Gives part call given book book was (set was i p')
 read_gives part i call given book was p p' e l at r step_is places_are why =
-    gives_by part i call given book book was p p' e l at step_is places_are refl refl (books_by_none (made_by part call given) book book (read_makes_none part call given r) (λ basis list b. b))
+    gives_by part i call given book book was p p' e l at step_is places_are refl refl (read_tries call book r) (books_by_none (made_by part call given) book book (read_makes_none part call given r) (λ basis list b. b))
     (read_faults book part p.plain call given r why) (λ sync. absurd (no_sync call r sync))
 
 -- ---- a change
@@ -150,11 +165,19 @@ change_is_no_sync (change.Forget mark) e = absurd cc
 change_is_no_sync (change.Back mark) e = absurd cc
 change_is_no_sync change.Clear e = absurd cc
 
+change_tries : (what : Change) (old new : Book) → new.newest ≡ old.newest → Tries (call_for what) old new
+change_tries (change.Set key doc) old new same = same
+change_tries (change.Del key) old new same = same
+change_tries change.Mark old new same = same
+change_tries (change.Forget mark) old new same = same
+change_tries (change.Back mark) old new same = same
+change_tries change.Clear old new same = same
+
 -- nothing was reserved
 pub unreserved_gives : (part : ℕ) (what : Change) (f : Fault) (old new : Book) (was : List Partition) → IsServed (call_for what) → HasRoom (part_at was part).plain (call_for what) → new ≡ old → KeepsBooks old new → (f ≡ NoMemory) ⊎ IsWorn old part f
     → Gives part (call_for what) (Err f) old new was was
 unreserved_gives part what f old new was k room same keeps why =
-    gives_none part (call_for what) f old new was (ap parts_in same) (ap (λ (b : Book). b.released) same) (books_by_none (made_by part (call_for what) (Err f)) old new (err_makes_none part (call_for what) f) keeps)
+    gives_none part (call_for what) f old new was (ap parts_in same) (ap (λ (b : Book). b.released) same) (change_tries what old new (ap (λ (b : Book). b.newest) same)) (books_by_none (made_by part (call_for what) (Err f)) old new (err_makes_none part (call_for what) f) keeps)
     (change_fault old part (part_at was part).plain what f k (kinds why))
   where
     kinds : (f ≡ NoMemory) ⊎ IsWorn old part f → IsChangeFault old part (part_at was part).plain (call_for what) f
@@ -166,7 +189,7 @@ pub unmade_gives : (part i : ℕ) (what : Change) (f : Fault) (old new : Book) (
     → i ≡ part → part < length was → p ≡ get_or was i p → IsServed (call_for what) → IsStep p.plain (call_for what) (Err f) p'.plain → p'.places ≡ p.places
     → new ≡ after_reserve (part, what) old → KeepsBooks old new → f ≡ NoMemory → Gives part (call_for what) (Err f) old new was (set was i p')
 unmade_gives part i what f old new was p p' e l at k step_is places_are staged keeps why =
-    gives_by part i (call_for what) (Err f) old new was p p' e l at step_is places_are (ap parts_in staged) (ap (λ (b : Book). b.released) staged)
+    gives_by part i (call_for what) (Err f) old new was p p' e l at step_is places_are (ap parts_in staged) (ap (λ (b : Book). b.released) staged) (change_tries what old new (ap (λ (b : Book). b.newest) staged))
     (books_by_none (made_by part (call_for what) (Err f)) old new (err_makes_none part (call_for what) f) keeps) (change_fault old part p.plain what f k (inl why)) (λ sync. tt)
 
 module _ (part : ℕ) (what : Change) (old mid new : Book) (staged : mid ≡ after_reserve (part, what) old) (next : IsNextOf old (part, what)) where
@@ -189,6 +212,9 @@ module _ (part : ℕ) (what : Change) (old mid new : Book) (staged : mid ≡ aft
   pub pushed_released : ((e : Entry) → mid.staged ≡ Some (staged_of mid e) → new ≡ after_push e mid) → new.released ≡ old.released
   pushed_released book = ap (λ (b : Book). b.released) (book (part, what) staged_mid) ∙ ap (λ (b : Book). b.released) staged
 
+  pub pushed_tries : ((e : Entry) → mid.staged ≡ Some (staged_of mid e) → new ≡ after_push e mid) → Tries (call_for what) old new
+  pushed_tries book = change_tries what old new (ap (λ (b : Book). b.newest) (book (part, what) staged_mid) ∙ ap (λ (b : Book). b.newest) staged)
+
 pub made_gives : (part i : ℕ) (what : Change) (reply : Reply) (old mid new : Book) (was : List Partition) (p p' : Partition)
     → i ≡ part → part < length was → p ≡ get_or was i p → IsServed (call_for what) → IsStep p.plain (call_for what) (Ok reply) p'.plain → p'.places ≡ p.places
     → mid ≡ after_reserve (part, what) old → IsNextOf old (part, what) → KeepsBooks old mid → parts_in new ≡ parts_in mid
@@ -196,6 +222,7 @@ pub made_gives : (part i : ℕ) (what : Change) (reply : Reply) (old mid new : B
     → Gives part (call_for what) (Ok reply) old new was (set was i p')
 made_gives part i what reply old mid new was p p' e l at k step_is places_are staged next reserved parts_are book pushed =
     gives_by part i (call_for what) (Ok reply) old new was p p' e l at step_is places_are (parts_are ∙ ap parts_in staged) (pushed_released part what old mid new staged next book)
+    (pushed_tries part what old mid new staged next book)
     (made_books part what old mid new staged next reply k reserved pushed) tt (λ sync. absurd (change_is_no_sync what sync))
 
 -- a call that a store serves, and neither reads nor writes, is a sync

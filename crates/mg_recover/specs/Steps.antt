@@ -1,5 +1,5 @@
 -- What a call makes of its partition and of the log, and the place that it takes.
-use Rattle.std.specs.Prelude.{◌≡◌, ◌≢◌, ℕ, ◌+◌, List, [], ◌∷◌, ◌++◌, Bool, true, false, Option, None, Some, Result, Ok, Err, IfErr, OnOk, ⊤, ◌==◌}
+use Rattle.std.specs.Prelude.{◌≡◌, ◌≢◌, ◌≤◌, ℕ, ◌+◌, List, [], ◌∷◌, ◌++◌, Bool, true, false, Option, None, Some, Result, Ok, Err, IfErr, OnOk, ⊤, ◌==◌}
 use Rattle.mg_disk.specs.Images.{View}
 use Rattle.mg_types.specs.declared.faults.Fault.{Fault}
 use Rattle.mg_model.specs.declared.calls.Call.{Call}
@@ -70,10 +70,20 @@ abbrev pub KeepsReachBy : List Entry → Book → Book → View → View → Typ
 KeepsReachBy entries old new view view' =
     (basis : Basis) (list : List Entry) (time reach : ℕ) → Books basis list old → Reaches basis list time reach old view → Reaches basis (list ++ entries) time reach new view'
 
+-- the greatest number of a log stays, or rises by one
+abbrev pub TriesOne : Book → Book → Type 0
+TriesOne old new = (old.newest ≤ new.newest) × (new.newest ≤ old.newest + 1)
+
+-- the greatest number of a log: a sync tries one at most, each other call none
+abbrev pub Tries : Call → Book → Book → Type 0
+Tries Sync old new = TriesOne old new
+Tries other old new = new.newest ≡ old.newest
+
 -- What a call gave, and where the log and the partitions stand then, before the call takes its place.
 pub record Gives (part : ℕ) (call : Call) (given : Result Reply Fault) (old new : Book) (was now : List Partition) : Type 0 where
   pub parts : parts_in new ≡ parts_in old
   pub released : new.released ≡ old.released
+  pub tries : Tries call old new
   pub books : KeepsBooksBy (made_by part call given) old new
   pub step : IsStep (part_at was part).plain call given (part_at now part).plain
   pub places : (part_at now part).places ≡ (part_at was part).places

@@ -28,7 +28,7 @@ impl<V: Volume> Store<V> {
     ghost use Rattle.mg_model.specs.State.{length_of, HasRoom};
     ghost use Rattle.mg_recover.specs.Answers.{placed_for, CarriesReach, IsAnswered, IsServed, IsSyncFault};
     ghost use Rattle.mg_recover.specs.Stores.{log_book, log_volume, part_at, partitions_of, AllSynced, Stands};
-    ghost use Rattle.mg_recover.specs.Steps.{made_by, Gives, KeepsReachBy};
+    ghost use Rattle.mg_recover.specs.Steps.{made_by, Gives, KeepsReachBy, Tries, TriesOne};
     ghost use Rattle.mg_wal.specs.Lists.{Basis};
 
     /// How many calls of the run took a place in the partition.
@@ -68,6 +68,7 @@ impl<V: Volume> Store<V> {
             → CarriesReach basis placed (placed ++ placed_for part client call result) (log_book self.old) (log_book self.new)
             (V.view (log_volume self.old)) (V.view (log_volume self.new)) }
         ensures volume { (call ≡ Sync → ⊥) → log_volume self.new ≡ log_volume self.old }
+        ensures tries { Tries call (log_book self.old) (log_book self.new) }
         ensures parts { parts_in (log_book self.new) ≡ parts_in (log_book self.old) }
         ensures cause { HasCause Fault.WriteFault (V.faults (log_volume self.old)) (V.faults (log_volume self.new)) result.result }
         ensures once { CountsOnce (V.faults (log_volume self.old)) (V.faults (log_volume self.new)) result.result }
@@ -86,6 +87,7 @@ impl<V: Volume> Store<V> {
         ensures reaches { IsTrue V.tells → (basis : Basis) (placed : List Placed) → Stands basis placed (log_book self.old) (partitions_of self.old)
             → CarriesReach basis placed placed (log_book self.old) (log_book self.new) (V.view (log_volume self.old)) (V.view (log_volume self.new)) }
         ensures same { partitions_of self.new ≡ partitions_of self.old }
+        ensures tries { TriesOne (log_book self.old) (log_book self.new) }
         ensures parts { parts_in (log_book self.new) ≡ parts_in (log_book self.old) }
         ensures err { IfErr result (IsSyncFault (log_book self.old)) }
         ensures cause { HasCause Fault.WriteFault (V.faults (log_volume self.old)) (V.faults (log_volume self.new)) result }
