@@ -36,7 +36,8 @@ pub fn open<V: Volume>(alloc: Global, vol: V, parts: u16) -> Result<Store<V>, Re
     ensures parts { IfOk result (λ store. parts_in (log_book store) ≡ parts) }
     ensures stands { IfOk result (λ store. (basis : Basis) × Stands basis [] (log_book store) (partitions_of store)
         × (IsTrue V.tells → IsFound (V.view vol).contents basis
-        × Reaches basis [] (V.view vol).moment basis.reached (log_book store) (V.view (log_volume store)))) }
+        × Reaches basis [] (V.view vol).moment basis.reached (log_book store) (V.view (log_volume store)))
+        × ((log_book store).newest ≡ basis.newest)) }
     ensures opened { IsTrue V.tells → IfOk result (λ store. IsOpened parts (V.view vol).contents (λ part. (part_at (partitions_of store) part).plain)) }
     ensures kinds { IfErr result (λ e. (e.fault ≡ NoMemory) ⊎ (e.fault ≡ ReadFault) ⊎ (e.fault ≡ WriteFault) ⊎ IsStoreRefusal parts e.fault) }
     ensures refused { IsTrue V.tells → IfErr result (λ e. IsStoreRefusal parts e.fault → IsStoreRefused parts (V.view vol).contents e.fault) }
