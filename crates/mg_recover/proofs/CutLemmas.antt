@@ -210,21 +210,26 @@ cut_is_all basis placed number part at =
     let all : take (number - last_opened basis) list ≡ list = take_all (number - last_opened basis) list (omega (arith, at)) in
     ap (λ (es : List Entry). after_changes (opened_by basis part) (changes_at es part)) all ∙ changes_are_calls basis placed part
 
-pub leaves_all : (basis : Basis) (placed : List Placed) (book : Book) (partitions : List Partition) (image : Image) → Stands basis placed book partitions → AllSynced book
-    → LeavesPrefix basis book.released (run_changes basis placed) book.reach image → LeavesAll basis placed image
-leaves_all basis placed book partitions image stands synced prefix =
-    let books = stands.books in
-    let leaves = leaves_cut basis placed book partitions book.reach image stands books.reach.0 prefix in
-    let opened = leaves.opened in
-    let recs_are : length (all_recs basis (run_changes basis placed)) ≡ length basis.opened + length (run_changes basis placed) =
+-- the last record of the log is the last change of the run
+pub book_last : (basis : Basis) (placed : List Placed) (book : Book) → Books basis (run_changes basis placed) book → book.last ≡ last_change basis placed
+book_last basis placed book books =
     omega (
       arith,
       length-entries (all_recs basis (run_changes basis placed)),
       ap (λ (l : List Entry). length l) (entries_of-all basis (run_changes basis placed)),
       length-append (entries_of basis.opened) (run_changes basis placed),
       length-entries basis.opened,
-    ) in
-    let last : leaves.number ≡ last_change basis placed = omega (arith, leaves.reached, leaves.within, synced, books.last, books.first, recs_are) in
+      books.last,
+      books.first,
+    )
+
+pub leaves_all : (basis : Basis) (placed : List Placed) (book : Book) (partitions : List Partition) (image : Image) → Stands basis placed book partitions → AllSynced book
+    → LeavesPrefix basis book.released (run_changes basis placed) book.reach image → LeavesAll basis placed image
+leaves_all basis placed book partitions image stands synced prefix =
+    let books = stands.books in
+    let leaves = leaves_cut basis placed book partitions book.reach image stands books.reach.0 prefix in
+    let opened = leaves.opened in
+    let last : leaves.number ≡ last_change basis placed = omega (arith, leaves.reached, leaves.within, synced, book_last basis placed book books) in
     record {
       logs = opened.logs;
       recs = opened.recs;

@@ -1,0 +1,11 @@
+mod Answering
+mod Counts
+mod Told
+mod Shown
+mod Causes
+mod Standing
+mod Holding
+mod Pieces
+mod Rising
+mod ServingLemmas
+mod Ending

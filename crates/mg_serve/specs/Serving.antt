@@ -1,0 +1,152 @@
+-- What a run of calls over a store answers, writes and leaves.
+use Rattle.std.specs.Prelude.{◌≡◌, ◌<◌, ◌⊎◌, ℕ, zero, suc, ◌+◌, List, [], ◌∷◌, ◌++◌, Bool, IsTrue, Option, Result, Ok, Err}
+use Rattle.std.specs.Io.KnownBytes.{Appends}
+use Rattle.mg_disk.specs.Images.{View}
+use Rattle.mg_faults.specs.Causes.{HasCause, CountsOnce, RoseOnce}
+use Rattle.mg_model.specs.declared.replies.Answer.{Answer}
+use Rattle.mg_model.specs.State.{length_of}
+use Rattle.mg_recover.specs.declared.partition.Partition.{Partition}
+use Rattle.mg_recover.specs.Made.{opened_by}
+use Rattle.mg_recover.specs.Answers.{IsSyncFault}
+use Rattle.mg_recover.specs.Stores.{part_at, AllSynced}
+use Rattle.mg_script.specs.declared.script.Line.{Line}
+use Rattle.mg_script.specs.Transcript.{end_line}
+use Rattle.mg_types.specs.declared.faults.Fault.{Fault}
+use Rattle.mg_types.specs.declared.faults.Fault.TheVariants as fault
+use Rattle.mg_wal.specs.Book.{Book}
+use Rattle.mg_wal.specs.Lists.{Basis}
+use Rattle.mg_wal.specs.Stories.{Reaches}
+use Rattle.mg_serve.specs.Answers.{AllFit, MayFailSync}
+use Rattle.mg_serve.specs.Lasting.{failed_writes, faults_in, Holds, KeepsLog, LeavesAllNow, RisesBy}
+use Rattle.mg_serve.specs.Placed.{placed_of}
+use Rattle.mg_serve.specs.Sessions.{Standing, StandsAt}
+use Rattle.mg_serve.specs.Statuses.{answers_status}
+use Rattle.mg_serve.specs.Told.{call_texts, joined, numbered, numbered_answer, numbered_text, texts}
+use Rattle.mg_serve.specs.Writing.{StopsInLast, Wrote}
+
+-- ---- one call
+
+-- The call of a line was answered, the session stands behind it, its line was written or a front of it, and the count of the log's
+-- volume rose as the answer says.
+pub record ServedNext (basis : Basis) (lines : List Line) (answers : List Answer) (line : Line) (standing : Standing)
+    (count count' : ℕ) (written written' : Option (List ℕ)) (faults faults' : ℕ) (result : Result Unit Fault) (Keeps : Answer → Type 0) : Type 0 where
+  pub answer : Answer
+  pub stands : StandsAt basis (lines ++ line ∷ []) (answers ++ answer ∷ []) standing
+  pub cause : HasCause fault.WriteFault count count' answer.result
+  pub once : CountsOnce count count' answer.result
+  pub text : Wrote written written' faults faults' (numbered_text (numbered_answer lines line answer)) result
+  pub keeps : Keeps answer
+
+-- ---- all calls
+
+-- Some lines were answered, and the session stands behind them.
+pub record Made (basis : Basis) (lines : List Line) (answers : List Answer) (standing : Standing) (opening : ℕ) (count count' : ℕ) (tells : Bool) (old : Book) (was now : View) : Type 0 where
+  pub stands : StandsAt basis lines answers standing
+  pub rises : RisesBy (failed_writes answers) (faults_in answers) count count'
+  pub holds : IsTrue tells → Reaches basis [] opening basis.reached old was → Holds basis lines answers opening standing.book now
+
+-- All lines were answered, and written.
+pub record ServedAll (lines : List Line) (written written' : Option (List ℕ)) (faults faults' : ℕ) (MadeBy : List Line → List Answer → Type 0) : Type 0 where
+  pub answers : List Answer
+  pub made : MadeBy lines answers
+  pub text : Appends written written' (joined (call_texts lines answers))
+  pub sink : faults' ≡ faults
+
+-- The calls broke off in the line of the last answer.
+pub record BrokeInLine (lines : List Line) (written written' : Option (List ℕ)) (faults faults' : ℕ) (MadeBy : List Line → List Answer → Type 0) (f : Fault) : Type 0 where
+  pub first : List Line
+  pub behind : List Line
+  pub answers : List Answer
+  pub split : lines ≡ first ++ behind
+  pub made : MadeBy first answers
+  pub text : StopsInLast written written' faults faults' (call_texts first answers) f
+
+-- ---- end lines
+
+-- the end line of a partition
+abbrev pub partition_end : List Partition → ℕ → List ℕ
+partition_end partitions part = let it = part_at partitions part in end_line part it.places (length_of it.plain) it.plain.epoch
+
+-- the end lines of the first partitions, in rising order
+abbrev pub partition_ends : List Partition → ℕ → List (List ℕ)
+partition_ends partitions zero = []
+partition_ends partitions (suc part) = partition_ends partitions part ++ partition_end partitions part ∷ []
+
+-- The end lines broke off in that of a partition.
+pub record BrokeInEnds (partitions : List Partition) (parts : ℕ) (written written' : Option (List ℕ)) (faults faults' : ℕ) (f : Fault) : Type 0 where
+  pub part : ℕ
+  pub within : part < parts
+  pub text : StopsInLast written written' faults faults' (partition_ends partitions (suc part)) f
+
+-- ---- the whole run
+
+-- 1 for a failed write
+abbrev pub write_count : Fault → ℕ
+write_count fault.WriteFault = 1
+write_count other = 0
+
+-- How a run of this status ended, by what its calls came to. Where they stopped, one sync was tried and nothing was written. Else the
+-- sync was answered and the end lines were written, or the sync failed and none was, or one of them broke off.
+abbrev pub IsEnd : List Partition → ℕ → ℕ → Book → Book → ℕ → ℕ → Option (List ℕ) → Option (List ℕ) → ℕ → ℕ → Result Unit Fault → Result ℕ Fault → Type 0
+IsEnd partitions parts status old new count count' written written' faults faults' (Err f) result =
+    (result ≡ Err f) × (written' ≡ written) × (faults' ≡ faults) × RisesBy 0 1 count count'
+IsEnd partitions parts status old new count count' written written' faults faults' (Ok done) (Ok ended) =
+    (ended ≡ status) × AllSynced new × Appends written written' (joined (partition_ends partitions parts)) × (faults' ≡ faults) × (count' ≡ count)
+IsEnd partitions parts status old new count count' written written' faults faults' (Ok done) (Err f) =
+    (IsSyncFault old f × (written' ≡ written) × (faults' ≡ faults) × RisesBy (write_count f) 1 count count')
+    ⊎ (AllSynced new × BrokeInEnds partitions parts written written' faults faults' f × (count' ≡ count))
+
+-- The run came to its end: all lines were answered and written, the last sync too and the end lines.
+pub record EndsWell (parts : ℕ) (basis : Basis) (lines first : List Line) (answers : List Answer) (count count' : ℕ) (Lasts : Type 0)
+    (written written' : Option (List ℕ)) (faults faults' : ℕ) (status : ℕ) : Type 0 where
+  pub all : first ≡ lines
+  pub gravest : status ≡ answers_status answers
+  pub text : Appends written written' (joined (texts (opened_by basis) (placed_of first answers) (numbered [] first answers) parts))
+  pub sink : faults' ≡ faults
+  pub rises : RisesBy (failed_writes answers) (faults_in answers) count count'
+  pub lasts : Lasts
+
+-- The run broke off in the line of the last answer. One sync was tried then.
+pub record BreaksInLine (first : List Line) (answers : List Answer) (count count' : ℕ) (written written' : Option (List ℕ)) (faults faults' : ℕ) (f : Fault) : Type 0 where
+  pub text : StopsInLast written written' faults faults' (call_texts first answers) f
+  pub rises : RisesBy (failed_writes answers) (faults_in answers + 1) count count'
+
+-- All lines were answered and written, the last sync failed, and no end line was written.
+pub record EndsUnsynced (basis : Basis) (lines first : List Line) (answers : List Answer) (count count' : ℕ) (written written' : Option (List ℕ)) (faults faults' : ℕ) (f : Fault) : Type 0 where
+  pub all : first ≡ lines
+  pub text : Appends written written' (joined (call_texts first answers))
+  pub sink : faults' ≡ faults
+  pub why : MayFailSync basis f
+  pub rises : RisesBy (failed_writes answers + write_count f) (faults_in answers + 1) count count'
+
+-- All lines were answered and written, the last sync too, and the run broke off in the end line of a partition.
+pub record BreaksInEnds (parts : ℕ) (basis : Basis) (lines first : List Line) (answers : List Answer) (count count' : ℕ) (Lasts : Type 0)
+    (written written' : Option (List ℕ)) (faults faults' : ℕ) (f : Fault) : Type 0 where
+  pub all : first ≡ lines
+  pub part : ℕ
+  pub within : part < parts
+  pub text : StopsInLast written written' faults faults' (texts (opened_by basis) (placed_of first answers) (numbered [] first answers) (suc part)) f
+  pub rises : RisesBy (failed_writes answers) (faults_in answers) count count'
+  pub lasts : Lasts
+
+-- how a run ended, by its status or by the fault for which it broke off
+abbrev pub Ends : ℕ → Basis → List Line → List Line → List Answer → ℕ → ℕ → Type 0 → Option (List ℕ) → Option (List ℕ) → ℕ → ℕ → Result ℕ Fault → Type 0
+Ends parts basis lines first answers count count' Lasts written written' faults faults' (Ok status) =
+    EndsWell parts basis lines first answers count count' Lasts written written' faults faults' status
+Ends parts basis lines first answers count count' Lasts written written' faults faults' (Err f) =
+    BreaksInLine first answers count count' written written' faults faults' f
+    ⊎ EndsUnsynced basis lines first answers count count' written written' faults faults' f
+    ⊎ BreaksInEnds parts basis lines first answers count count' Lasts written written' faults faults' f
+
+-- The calls of a script were made, in order, up to the end or to where writing stopped: the answers fit, what was written is theirs, the
+-- log keeps what it promises, and the run ended for this reason.
+pub record Ran (parts : ℕ) (basis : Basis) (lines : List Line) (opening count count' : ℕ) (tells : Bool) (old : Book) (was now : View)
+    (written written' : Option (List ℕ)) (faults faults' : ℕ) (ended : Result ℕ Fault) : Type 0 where
+  pub first : List Line
+  pub behind : List Line
+  pub answers : List Answer
+  pub split : lines ≡ first ++ behind
+  pub fit : AllFit basis [] first answers
+  pub log : IsTrue tells → Reaches basis [] opening basis.reached old was → KeepsLog basis first answers opening now
+  pub ends : Ends parts basis lines first answers count count' (IsTrue tells → Reaches basis [] opening basis.reached old was → LeavesAllNow basis (placed_of first answers) now)
+      written written' faults faults' ended
