@@ -23,7 +23,7 @@ use Rattle.mg_wal.proofs.ReachLaws.{reaches_now, reaches_opens}
 use Rattle.mg_serve.specs.Answers.{line_limit, IsSyncedAt}
 use Rattle.mg_serve.specs.Lasting.{failed_writes, faults_in, Holds, KeepsLog, LeavesAllNow, LeavesCuts, RisesBy}
 use Rattle.mg_serve.specs.Placed.{placed_of}
-use Rattle.mg_serve.specs.Serving.{partition_end, partition_ends, write_count, BreaksInEnds, BreaksInLine, BrokeInEnds, BrokeInLine, Ends, EndsUnsynced, EndsWell, IsEnd, Made, Ran, ServedAll}
+use Rattle.mg_serve.specs.Serving.{partition_end, partition_ends, write_count, BreaksInEnds, BreaksInLine, BrokeInEnds, BrokeInLine, Ends, EndsUnsynced, EndsWell, IsEnd, KeepsFrom, LastsFrom, Made, Ran, ServedAll}
 use Rattle.mg_serve.specs.Sessions.{Standing, StandsAt}
 use Rattle.mg_serve.specs.Told.{call_texts, end_text, end_texts, joined, numbered, texts}
 use Rattle.mg_serve.specs.Writing.{StopsInLast}
@@ -103,7 +103,7 @@ ran_broken : (parts : ℕ) (basis : Basis) (lines : List Line) (opening count mi
     → (IsTrue tells → (placed : List Placed) → Stands basis placed standing.book standing.partitions → CarriesReach basis placed placed standing.book book view view')
     → (IsTrue tells → (time : ℕ) (image : Image) → view'.left_since time image → HoldsBytes image)
     → w'' ≡ w' → k'' ≡ k' → RisesBy 0 1 mid now
-    → Ran parts basis lines opening count now tells old was view' w w'' k k'' (Err f)
+    → Ran parts basis lines count now (KeepsFrom tells basis opening old was view') (LastsFrom tells basis opening old was view') w w'' k k'' (Err f)
 ran_broken parts basis lines opening count mid now tells old was view view' standing book partitions w w' w'' k k' k'' f b stands carries bytes same sink rises =
     let made = b.made in
     record {
@@ -129,7 +129,7 @@ ran_served : (parts : ℕ) (basis : Basis) (lines : List Line) (opening count mi
     → (IsTrue tells → (placed : List Placed) → Stands basis placed standing.book standing.partitions → CarriesReach basis placed placed standing.book book view view')
     → (IsTrue tells → (time : ℕ) (image : Image) → view'.left_since time image → HoldsBytes image)
     → Ends parts basis lines lines a.answers count now (IsTrue tells → Reaches basis [] opening basis.reached old was → LeavesAllNow basis (placed_of lines a.answers) view') w w'' k k'' ended
-    → Ran parts basis lines opening count now tells old was view' w w'' k k'' ended
+    → Ran parts basis lines count now (KeepsFrom tells basis opening old was view') (LastsFrom tells basis opening old was view') w w'' k k'' ended
 ran_served parts basis lines opening count mid now tells old was view view' standing book partitions w w' k k' w'' k'' ended a stands carries bytes ends =
     let made = a.made in
     record {
@@ -156,9 +156,9 @@ pub ran : (parts : ℕ) (basis : Basis) (lines : List Line) (opening count mid n
     → (IsTrue tells → (image : Image) → view'.left_since view'.moment image → view'.may_leave image)
     → (IsTrue tells → (image : Image) → view'.may_leave image → view'.left_since view'.moment image)
     → IsEnd partitions parts standing.status standing.book book mid now w' w'' k' k'' served ended
-    → Ran parts basis lines opening count now tells old was view' w w'' k k'' ended
+    → Ran parts basis lines count now (KeepsFrom tells basis opening old was view') (LastsFrom tells basis opening old was view') w w'' k k'' ended
 ran parts basis lines opening count mid now tells old was view view' standing book partitions w w' w'' k k' k'' (Err f) ended few within b stands carries bytes only counts end =
-    subst (λ (e : Result ℕ Fault). Ran parts basis lines opening count now tells old was view' w w'' k k'' e) (sym end.0)
+    subst (λ (e : Result ℕ Fault). Ran parts basis lines count now (KeepsFrom tells basis opening old was view') (LastsFrom tells basis opening old was view') w w'' k k'' e) (sym end.0)
     (ran_broken parts basis lines opening count mid now tells old was view view' standing book partitions w w' w'' k k' k'' f b stands carries bytes end.1 end.2 end.3)
 ran parts basis lines opening count mid now tells old was view view' standing book partitions w w' w'' k k' k'' (Ok done) ended few within a stands carries bytes only counts end =
     ran_served parts basis lines opening count mid now tells old was view view' standing book partitions w w' k k' w'' k'' ended a stands carries bytes (by_end ended end)

@@ -140,13 +140,20 @@ Ends parts basis lines first answers count count' Lasts written written' faults 
 
 -- The calls of a script were made, in order, up to the end or to where writing stopped: the answers fit, what was written is theirs, the
 -- log keeps what it promises, and the run ended for this reason.
-pub record Ran (parts : ℕ) (basis : Basis) (lines : List Line) (opening count count' : ℕ) (tells : Bool) (old : Book) (was now : View)
+pub record Ran (parts : ℕ) (basis : Basis) (lines : List Line) (count count' : ℕ) (Keeps Lasts : List Line → List Answer → Type 0)
     (written written' : Option (List ℕ)) (faults faults' : ℕ) (ended : Result ℕ Fault) : Type 0 where
   pub first : List Line
   pub behind : List Line
   pub answers : List Answer
   pub split : lines ≡ first ++ behind
   pub fit : AllFit basis [] first answers
-  pub log : IsTrue tells → Reaches basis [] opening basis.reached old was → KeepsLog basis first answers opening now
-  pub ends : Ends parts basis lines first answers count count' (IsTrue tells → Reaches basis [] opening basis.reached old was → LeavesAllNow basis (placed_of first answers) now)
-      written written' faults faults' ended
+  pub log : Keeps first answers
+  pub ends : Ends parts basis lines first answers count count' (Lasts first answers) written written' faults faults' ended
+
+-- what the log keeps, where it reached what the opening found
+abbrev pub KeepsFrom : Bool → Basis → ℕ → Book → View → View → List Line → List Answer → Type 0
+KeepsFrom tells basis opening old was now lines answers = IsTrue tells → Reaches basis [] opening basis.reached old was → KeepsLog basis lines answers opening now
+
+-- that the log keeps all, where it reached what the opening found
+abbrev pub LastsFrom : Bool → Basis → ℕ → Book → View → View → List Line → List Answer → Type 0
+LastsFrom tells basis opening old was now lines answers = IsTrue tells → Reaches basis [] opening basis.reached old was → LeavesAllNow basis (placed_of lines answers) now

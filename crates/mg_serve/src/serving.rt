@@ -7,7 +7,7 @@ ghost use Rattle.mg_recover.specs.Answers.{CarriesReach};
 ghost use Rattle.mg_recover.specs.Stores.{log_book, log_volume, partitions_of, Stands};
 ghost use Rattle.mg_script.specs.Script.{IsLine};
 ghost use Rattle.mg_serve.specs.Answers.{line_limit};
-ghost use Rattle.mg_serve.specs.Serving.{BrokeInLine, IsEnd, Made, Ran, ServedAll};
+ghost use Rattle.mg_serve.specs.Serving.{BrokeInLine, IsEnd, KeepsFrom, LastsFrom, Made, Ran, ServedAll};
 ghost use Rattle.mg_serve.specs.Sessions.{session_volume, standing_of, StandsAt};
 ghost use Rattle.mg_wal.specs.Book.{parts_in};
 ghost use Rattle.mg_wal.specs.Lists.{Basis};
@@ -46,7 +46,9 @@ pub fn serve<V: Volume, K: Sink>(
     requires few { length lines.items ≤ line_limit }
     requires stands { (basis : Basis) × Stands basis [] (log_book store) (partitions_of store) × ((log_book store).newest ≤ basis.newest) }
     ensures { (basis : Basis) (opening : ℕ) → Stands basis [] (log_book store) (partitions_of store) → (log_book store).newest ≤ basis.newest
-        → Ran parts basis lines.items opening (V.faults (log_volume store)) (V.faults result.vol) V.tells (log_book store) (V.view (log_volume store)) (V.view result.vol)
+        → Ran parts basis lines.items (V.faults (log_volume store)) (V.faults result.vol)
+          (KeepsFrom V.tells basis opening (log_book store) (V.view (log_volume store)) (V.view result.vol))
+          (LastsFrom V.tells basis opening (log_book store) (V.view (log_volume store)) (V.view result.vol))
           (K.written out.old) (K.written out.new) (K.faults out.old) (K.faults out.new) result.ended }
 {
     let mut session = Session::new(store);
