@@ -32,7 +32,7 @@ entered_spoken Mark result k = absurd k
 entered_spoken (Forget mark) result k = absurd k
 entered_spoken (Rollback to) result k = absurd k
 entered_spoken Clear result k = absurd k
-entered_spoken Sync result k = absurd k
+entered_spoken Sync result k = refl
 entered_spoken (Compact through) result k = absurd k
 entered_spoken Stats result k = refl
 
@@ -45,7 +45,7 @@ ends_spoken s Mark k = absurd k
 ends_spoken s (Forget mark) k = absurd k
 ends_spoken s (Rollback to) k = absurd k
 ends_spoken s Clear k = absurd k
-ends_spoken s Sync k = absurd k
+ends_spoken s Sync k = (tt, tt)
 ends_spoken s (Compact through) k = absurd k
 ends_spoken s Stats k = (tt, tt)
 
@@ -59,7 +59,7 @@ step_short s Mark k = absurd k
 step_short s (Forget mark) k = absurd k
 step_short s (Rollback to) k = absurd k
 step_short s Clear k = absurd k
-step_short s Sync k = absurd k
+step_short s Sync k = omega arith
 step_short s (Compact through) k = absurd k
 step_short s Stats k = omega arith
 

@@ -1,12 +1,14 @@
 -- What a run reads, writes and answers.
-use Rattle.std.specs.Prelude.{◌≡◌, ◌<◌, ◌≤◌, ℕ, zero, suc, ◌+◌, List, [], ◌∷◌, ◌++◌, length, take, map, codes, ◌||◌, ◌==◌, Option, Result, Ok, Err, ◌⊎◌, if◌then◌else◌}
+use Rattle.std.specs.Prelude.{◌≡◌, ◌≢◌, ◌<◌, ◌≤◌, ℕ, zero, suc, ◌+◌, List, [], ◌∷◌, ◌++◌, length, take, map, codes, ◌||◌, ◌==◌, Option, Result, Ok, Err, ◌⊎◌, if◌then◌else◌}
 use Rattle.std.specs.Option.{option_to_list}
-use Rattle.std.specs.List.{count_by, filter, flat_map, fold, zip}
+use Rattle.std.specs.List.{All, AllWithin, HoldsAt, count_by, filter, flat_map, fold, zip}
 use Rattle.std.specs.Io.KnownBytes.{Appends, Consumes, IsAtEnd, Keeps}
 use Rattle.mg_faults.specs.Causes.{RoseOnce}
 use Rattle.mg_types.specs.declared.faults.Fault.{Fault}
 use Rattle.mg_types.specs.declared.faults.Fault.TheVariants as fault
 use Rattle.mg_types.specs.declared.faults.Why.{Why}
+use Rattle.mg_types.specs.declared.faults.Why.TheVariants.{Verb}
+use Rattle.mg_model.specs.declared.calls.Call.TheVariants.{Sync}
 use Rattle.mg_model.specs.declared.replies.Answer.{Answer}
 use Rattle.mg_model.specs.declared.replies.Reply.{Reply}
 use Rattle.mg_model.specs.State.{length_of}
@@ -132,6 +134,18 @@ pub record ReadsAll (left left' : Option (List ℕ)) (bytes : List ℕ) : Type 0
   pub end : IsAtEnd left'
   pub in_limit : length bytes ≤ script_limit
 
+-- a line that is no sync: until the program keeps a log, it answers only these
+abbrev pub NotSync : Line → Type 0
+NotSync line = line.call ≢ Sync
+
+-- of some lines the first sync is the one with this number, counted from 1
+pub record IsFirstSync (lines : List Line) (number : ℕ) : Type 0 where
+  pub index : ℕ
+  pub numbered : number ≡ index + 1
+  pub within : index < length lines
+  pub sync : HoldsAt (λ line. line.call ≡ Sync) lines index
+  pub first : AllWithin NotSync lines 0 index
+
 -- The run of so many partitions came to its end: the answers to all lines fit, all lines of the run were written, and no read or write failed.
 pub record Finishes (parts : ℕ) (opening : Opening) (before after : Seen) (status : ℕ) : Type 0 where
   pub bytes : List ℕ
@@ -139,6 +153,7 @@ pub record Finishes (parts : ℕ) (opening : Opening) (before after : Seen) (sta
   pub answers : List Answer
   pub read : ReadsAll before.left after.left bytes
   pub script : script_of parts bytes ≡ Ok lines
+  pub no_sync : All NotSync lines
   pub fit : AllFit opening [] lines answers
   pub text : Appends before.written after.written (joined (texts opening (placed_of lines answers) (numbered [] lines answers) parts))
   pub gravest : status ≡ answers_status answers
@@ -159,6 +174,7 @@ pub record BreaksOff (parts : ℕ) (opening : Opening) (before after : Seen) (le
   pub rest : List ℕ
   pub read : ReadsAll before.left after.left bytes
   pub script : script_of parts bytes ≡ Ok lines
+  pub no_sync : All NotSync lines
   pub calls : made ≤ length lines
   pub order : made < length lines → ends ≡ 0
   pub few : ends ≤ parts
@@ -173,6 +189,15 @@ pub record IsBadLine (parts : ℕ) (left left' : Option (List ℕ)) (line : ℕ)
   pub bytes : List ℕ
   pub read : ReadsAll left left' bytes
   pub script : script_of parts bytes ≡ Err (line, why)
+
+-- The whole input was read, each line is a call, and this one is the first sync.
+pub record IsSyncLine (parts : ℕ) (left left' : Option (List ℕ)) (line : ℕ) (why : Why) : Type 0 where
+  pub bytes : List ℕ
+  pub lines : List Line
+  pub read : ReadsAll left left' bytes
+  pub script : script_of parts bytes ≡ Ok lines
+  pub first : IsFirstSync lines line
+  pub named : why ≡ Verb
 
 -- one byte more than the limit was taken
 pub record IsTooLong (left left' : Option (List ℕ)) (limit : ℕ) : Type 0 where
@@ -209,7 +234,7 @@ abbrev pub Stops : ℕ → Opening → Seen → Seen → Fault → Type 0
 Stops parts opening before after fault.NoMemory = (TakesSome before.left after.left (script_limit + 1) × WritesNothing before after) ⊎ BreaksOff parts opening before after 0
 Stops parts opening before after fault.ReadFault = (RoseOnce before.read_faults after.read_faults × TakesSome before.left after.left script_limit) × WritesNothing before after
 Stops parts opening before after fault.WriteFault = (RoseOnce before.write_faults after.write_faults × BreaksOff parts opening before after 1) × ReadsWell before after
-Stops parts opening before after (fault.BadLine line why) = (IsBadLine parts before.left after.left line why × ReadsWell before after) × WritesNothing before after
+Stops parts opening before after (fault.BadLine line why) = ((IsBadLine parts before.left after.left line why ⊎ IsSyncLine parts before.left after.left line why) × ReadsWell before after) × WritesNothing before after
 Stops parts opening before after (fault.TooLong limit) = (IsTooLong before.left after.left limit × ReadsWell before after) × WritesNothing before after
 Stops parts opening before after other = ⊥
 

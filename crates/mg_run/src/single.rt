@@ -3,7 +3,8 @@
 ghost use Rattle.std.specs.Prelude.{◌≡◌, ◌≤◌, true, false, ◌↔◌, IfSome, MatchOption, MatchResult, OnOk};
 ghost use Rattle.std.specs.Io.KnownBytes.{Appends};
 ghost use Rattle.mg_model.specs.Placed.{empty_opening};
-ghost use Rattle.mg_run.specs.Runs.{fault_status, Finishes, Seen, Stops, StopsWriting};
+ghost use Rattle.std.specs.List.{All};
+ghost use Rattle.mg_run.specs.Runs.{fault_status, Finishes, IsFirstSync, NotSync, Seen, Stops, StopsWriting};
 ghost use Rattle.mg_run.specs.Sessions.{session_end};
 ghost use Rattle.mg_run.specs.Words.{are_alone_words};
 
@@ -12,8 +13,8 @@ use crate::session::{Session, status_of};
 use crate::streams::{read_all, write_all};
 use crate::words::ask_for_alone;
 use mg_io::{Sink, Source};
-use mg_model::Fault;
-use mg_script::{put_end, read_script};
+use mg_model::{Call, Fault, Why};
+use mg_script::{Line, put_end, read_script};
 use std::alloc::Global;
 
 /// How a run ended.
@@ -29,9 +30,10 @@ pub struct Ran {
 /// answers each line by a line, and ends with the partition's end line.
 ///
 /// The words are a folder and `alone`; others are `BadWords`, before anything is read. `TooLong` comes once
-/// one byte more than a script may have was taken, `BadLine` where a line of the whole input is no call, and
-/// then nothing is written. `ReadFault` and `WriteFault` come only where the source or the sink failed; after
-/// a failed write no further call is made. Want of memory can come at any step.
+/// one byte more than a script may have was taken, `BadLine` where a line of the whole input is no call or, where
+/// all are calls, one is a sync, which the program cannot answer before it keeps a log; then nothing is written.
+/// `ReadFault` and `WriteFault` come only where the source or the sink failed; after a failed write no further call
+/// is made. Want of memory can come at any step.
 pub fn alone<S: Source, K: Sink>(alloc: Global, words: &[String], input: &mut S, out: &mut K) -> Ran
     ensures words { (result.fault ≡ Some Fault.BadWords) ↔ (are_alone_words words.now ≡ false) }
     ensures untouched { are_alone_words words.now ≡ false → (input.new ≡ input.old) × (out.new ≡ out.old) }
@@ -80,6 +82,12 @@ fn run<S: Source, K: Sink>(alloc: Global, input: &mut S, out: &mut K) -> Result<
         Ok(lines) => lines,
         Err(fault) => return Err(fault),
     };
+    if let Some(line) = first_sync(&lines) {
+        return Err(Fault::BadLine {
+            line,
+            why: Why::Verb,
+        });
+    }
     let session = match serve_all(alloc, &lines, out) {
         Ok(session) => session,
         Err(fault) => return Err(fault),
@@ -88,6 +96,16 @@ fn run<S: Source, K: Sink>(alloc: Global, input: &mut S, out: &mut K) -> Result<
         Ok(()) => Ok(session.status),
         Err(fault) => Err(fault),
     }
+}
+
+/// The number, from 1, of the first line that is a sync.
+fn first_sync(lines: &[Line]) -> Option<u64>
+    ensures { MatchOption result (All NotSync lines.now) (IsFirstSync lines.now) }
+{
+    let index = lines
+        .iter()
+        .position(|line| matches!(line.call, Call::Sync))?;
+    Some(index as u64 + 1)
 }
 
 /// Writes the end line of the one partition.

@@ -100,6 +100,7 @@ word_of verb.Set = codes "set"
 word_of verb.Del = codes "del"
 word_of verb.Get = codes "get"
 word_of verb.Feed = codes "feed"
+word_of verb.Sync = codes "sync"
 word_of verb.Stats = codes "stats"
 
 verb_spelled : (field : List ℕ) (v : VerbWord) → verb_of field ≡ Some v → word_of v ≡ field
@@ -109,23 +110,27 @@ verb_spelled field v e = one (bytes_eq field (codes "set")) refl e
     told : (w : VerbWord) → bytes_eq field (word_of w) ≡ true → Some w ≡ Some v → word_of v ≡ field
     told w k q = let same : w ≡ v = cc in ap word_of (sym same) ∙ sym (same_text field (word_of w) (sym k))
 
-    five : (b : Bool) → bytes_eq field (codes "stats") ≡ b → (if b then Some verb.Stats else None) ≡ Some v → word_of v ≡ field
-    five true k q = told verb.Stats k q
-    five false k q = absurd (cc)
+    six : (b : Bool) → bytes_eq field (codes "stats") ≡ b → (if b then Some verb.Stats else None) ≡ Some v → word_of v ≡ field
+    six true k q = told verb.Stats k q
+    six false k q = absurd (cc)
 
-    four : (b : Bool) → bytes_eq field (codes "feed") ≡ b → (if b then Some verb.Feed else (if bytes_eq field (codes "stats") then Some verb.Stats else None)) ≡ Some v → word_of v ≡ field
+    five : (b : Bool) → bytes_eq field (codes "sync") ≡ b → (if b then Some verb.Sync else (if bytes_eq field (codes "stats") then Some verb.Stats else None)) ≡ Some v → word_of v ≡ field
+    five true k q = told verb.Sync k q
+    five false k q = six (bytes_eq field (codes "stats")) refl q
+
+    four : (b : Bool) → bytes_eq field (codes "feed") ≡ b → (if b then Some verb.Feed else (if bytes_eq field (codes "sync") then Some verb.Sync else (if bytes_eq field (codes "stats") then Some verb.Stats else None))) ≡ Some v → word_of v ≡ field
     four true k q = told verb.Feed k q
-    four false k q = five (bytes_eq field (codes "stats")) refl q
+    four false k q = five (bytes_eq field (codes "sync")) refl q
 
-    three : (b : Bool) → bytes_eq field (codes "get") ≡ b → (if b then Some verb.Get else (if bytes_eq field (codes "feed") then Some verb.Feed else (if bytes_eq field (codes "stats") then Some verb.Stats else None))) ≡ Some v → word_of v ≡ field
+    three : (b : Bool) → bytes_eq field (codes "get") ≡ b → (if b then Some verb.Get else (if bytes_eq field (codes "feed") then Some verb.Feed else (if bytes_eq field (codes "sync") then Some verb.Sync else (if bytes_eq field (codes "stats") then Some verb.Stats else None)))) ≡ Some v → word_of v ≡ field
     three true k q = told verb.Get k q
     three false k q = four (bytes_eq field (codes "feed")) refl q
 
-    two : (b : Bool) → bytes_eq field (codes "del") ≡ b → (if b then Some verb.Del else (if bytes_eq field (codes "get") then Some verb.Get else (if bytes_eq field (codes "feed") then Some verb.Feed else (if bytes_eq field (codes "stats") then Some verb.Stats else None)))) ≡ Some v → word_of v ≡ field
+    two : (b : Bool) → bytes_eq field (codes "del") ≡ b → (if b then Some verb.Del else (if bytes_eq field (codes "get") then Some verb.Get else (if bytes_eq field (codes "feed") then Some verb.Feed else (if bytes_eq field (codes "sync") then Some verb.Sync else (if bytes_eq field (codes "stats") then Some verb.Stats else None))))) ≡ Some v → word_of v ≡ field
     two true k q = told verb.Del k q
     two false k q = three (bytes_eq field (codes "get")) refl q
 
-    one : (b : Bool) → bytes_eq field (codes "set") ≡ b → (if b then Some verb.Set else (if bytes_eq field (codes "del") then Some verb.Del else (if bytes_eq field (codes "get") then Some verb.Get else (if bytes_eq field (codes "feed") then Some verb.Feed else (if bytes_eq field (codes "stats") then Some verb.Stats else None))))) ≡ Some v → word_of v ≡ field
+    one : (b : Bool) → bytes_eq field (codes "set") ≡ b → (if b then Some verb.Set else (if bytes_eq field (codes "del") then Some verb.Del else (if bytes_eq field (codes "get") then Some verb.Get else (if bytes_eq field (codes "feed") then Some verb.Feed else (if bytes_eq field (codes "sync") then Some verb.Sync else (if bytes_eq field (codes "stats") then Some verb.Stats else None)))))) ≡ Some v → word_of v ≡ field
     one true k q = told verb.Set k q
     one false k q = two (bytes_eq field (codes "del")) refl q
 
@@ -167,6 +172,7 @@ call_spelled verb.Feed fields x e =
           ∙ ap (λ (t : List ℕ). decimal a.0.0 ∷ decimal b.0.0 ∷ t ∷ l.0.1) (sym (limit_spelled limit.0 l.0.0 limit.2))
           ∙ ap (λ (z : Call × List (List ℕ)). call_fields z.0 ++ z.1) whole,
     )
+call_spelled verb.Sync fields x e = let whole : (call.Sync, fields) ≡ x = cc in (ap (λ (z : Call × List (List ℕ)). verb_word z.0) (sym whole), ap (λ (z : Call × List (List ℕ)). call_fields z.0 ++ z.1) whole)
 call_spelled verb.Stats fields x e = let whole : (call.Stats, fields) ≡ x = cc in (ap (λ (z : Call × List (List ℕ)). verb_word z.0) (sym whole), ap (λ (z : Call × List (List ℕ)). call_fields z.0 ++ z.1) whole)
 
 -- what a line was read from
@@ -205,6 +211,7 @@ verb_for (call.Set key doc) = verb.Set
 verb_for (call.Del key) = verb.Del
 verb_for (call.Get key) = verb.Get
 verb_for (call.Feed epoch after limit) = verb.Feed
+verb_for call.Sync = verb.Sync
 verb_for call.Stats = verb.Stats
 verb_for other = verb.Stats
 
@@ -224,12 +231,12 @@ call_again (call.Feed epoch after limit) rest k = (
       ∙ ap (λ r. r >>= λ b. take_field Number limit_of b.1 >>= λ l. Ok (call.Feed epoch b.0 l.0, l.1)) (take_again Number number_of (decimal after) (decimal limit ∷ rest) after (number_again after k.1))
       ∙ ap (λ r. r >>= λ l. Ok (call.Feed epoch after l.0, l.1)) (take_again Number limit_of (decimal limit) rest limit (limit_again limit k.2 k.3)),
 )
+call_again call.Sync rest k = (refl, refl)
 call_again call.Stats rest k = (refl, refl)
 call_again call.Mark rest k = absurd k
 call_again (call.Forget mark) rest k = absurd k
 call_again (call.Rollback to) rest k = absurd k
 call_again call.Clear rest k = absurd k
-call_again call.Sync rest k = absurd k
 call_again (call.Compact through) rest k = absurd k
 
 -- a line is read back from its fields

@@ -135,12 +135,12 @@ call_solid (call.Set key doc) k = (token_solid key, (token_solid doc, tt))
 call_solid (call.Del key) k = (token_solid key, tt)
 call_solid (call.Get key) k = (token_solid key, tt)
 call_solid (call.Feed epoch after limit) k = (decimal_solid epoch k.0, (decimal_solid after k.1, (decimal_solid limit (omega (arith, k.3)), tt)))
+call_solid call.Sync k = tt
 call_solid call.Stats k = tt
 call_solid call.Mark k = absurd k
 call_solid (call.Forget mark) k = absurd k
 call_solid (call.Rollback to) k = absurd k
 call_solid call.Clear k = absurd k
-call_solid call.Sync k = absurd k
 call_solid (call.Compact through) k = absurd k
 
 all_free : (c : ℕ) (fields : List (List ℕ)) → c < 33 → AllByRecursion Solid fields → AllByRecursion (Free c) fields

@@ -64,6 +64,7 @@ IsAskable (call.Set key doc) = IsKey key × AreBytes key × IsDoc doc × AreByte
 IsAskable (call.Del key) = IsKey key × AreBytes key
 IsAskable (call.Get key) = IsKey key × AreBytes key
 IsAskable (call.Feed epoch after limit) = (epoch < 2 ^ 64) × (after < 2 ^ 64) × (1 ≤ limit) × (limit ≤ 1000)
+IsAskable call.Sync = Unit {0}
 IsAskable call.Stats = Unit {0}
 IsAskable other = ⊥
 

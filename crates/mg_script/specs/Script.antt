@@ -62,7 +62,8 @@ verb_of field =
     else (if bytes_eq field (codes "del") then Some verb.Del
     else (if bytes_eq field (codes "get") then Some verb.Get
     else (if bytes_eq field (codes "feed") then Some verb.Feed
-    else (if bytes_eq field (codes "stats") then Some verb.Stats else None))))
+    else (if bytes_eq field (codes "sync") then Some verb.Sync
+    else (if bytes_eq field (codes "stats") then Some verb.Stats else None)))))
 
 -- the call of a verb, and the fields behind it
 unfoldable pub call_of : VerbWord → List (List ℕ) → Result (Call × List (List ℕ)) Why
@@ -81,6 +82,7 @@ call_of verb.Feed fields = do
   after ← take_field Number number_of epoch.1
   limit ← take_field Number limit_of after.1
   Ok (call.Feed epoch.0 after.0 limit.0, limit.1)
+call_of verb.Sync fields = Ok (call.Sync, fields)
 call_of verb.Stats fields = Ok (call.Stats, fields)
 
 -- nothing, where no field is left
@@ -142,6 +144,7 @@ IsSpoken (call.Set key doc) = Unit {0}
 IsSpoken (call.Del key) = Unit {0}
 IsSpoken (call.Get key) = Unit {0}
 IsSpoken (call.Feed epoch after limit) = (1 ≤ limit) × (limit ≤ 1000)
+IsSpoken call.Sync = Unit {0}
 IsSpoken call.Stats = Unit {0}
 IsSpoken other = ⊥
 

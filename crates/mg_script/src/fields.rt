@@ -36,6 +36,7 @@ pub enum Verb {
     Del,
     Get,
     Feed,
+    Sync,
     Stats,
 }
 
@@ -182,6 +183,7 @@ impl<'a> Fields<'a> {
                     limit,
                 })
             }
+            Verb::Sync => Ok(Call::Sync),
             Verb::Stats => Ok(Call::Stats),
         }
     }
@@ -208,6 +210,8 @@ fn read_verb(field: &[u8]) -> Option<Verb>
         Some(Verb::Get)
     } else if field == b"feed".as_slice() {
         Some(Verb::Feed)
+    } else if field == b"sync".as_slice() {
+        Some(Verb::Sync)
     } else if field == b"stats".as_slice() {
         Some(Verb::Stats)
     } else {

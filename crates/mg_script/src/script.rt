@@ -19,8 +19,8 @@ pub struct Line {
     pub call: Call,
 }
 
-/// The bytes of the shortest line, as `0 stats 0`, with its line feed.
-const SHORTEST_LINE: usize = 10;
+/// The bytes of the shortest line, as `0 sync 0`, with its line feed.
+const SHORTEST_LINE: usize = 9;
 
 /// The calls of a script over so many partitions. Its cost is linear in the bytes, and its memory is that of
 /// the calls.
@@ -56,7 +56,7 @@ pub fn read_script(alloc: Global, bytes: &[u8], parts: u16) -> Result<Vec<Line>,
 
 /// No more lines than this can be calls.
 fn line_count(bytes: &[u8]) -> usize
-    ensures { 10 * result ≤ length bytes.now }
+    ensures { 9 * result ≤ length bytes.now }
 {
     let line_feeds = bytes.iter().filter(|byte| **byte == b'\n').count();
     line_feeds.min(bytes.len() / SHORTEST_LINE)

@@ -168,6 +168,19 @@ fn a_script_is_read(rt: HostRuntime) -> Result<(), Fail> {
 }
 
 #[test]
+fn a_sync_has_no_field_behind_the_partition(rt: HostRuntime) -> Result<(), Fail> {
+    let lines = read_script(rt.alloc(), b"0 sync 0\n", 1)?;
+    assert_eq!(rt; lines.len(), 1);
+    assert!(rt; matches!(lines[0].call, Call::Sync));
+    let rows = [("0 sync 0 x\n", Why::Extra), ("0 sync\n", Why::Part)];
+    for (script, why) in rows {
+        let refused = read_script(rt.alloc(), script.as_bytes(), 1).err();
+        assert_eq!(rt; refused, Some(Fault::BadLine { line: 1, why }), "{script}");
+    }
+    Ok(())
+}
+
+#[test]
 fn the_lines_of_all_verbs_are_written(rt: HostRuntime) -> Result<(), Fail> {
     let alloc = rt.alloc();
     let set = Call::Set {
