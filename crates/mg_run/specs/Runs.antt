@@ -190,7 +190,8 @@ pub record IsBadLine (parts : ℕ) (left left' : Option (List ℕ)) (line : ℕ)
   pub read : ReadsAll left left' bytes
   pub script : script_of parts bytes ≡ Err (line, why)
 
--- The whole input was read, each line is a call, and this one is the first sync.
+-- The whole input was read, each line is a call, and this one is the first sync. So a line that is no call is told before
+-- any sync, wherever the two stand.
 pub record IsSyncLine (parts : ℕ) (left left' : Option (List ℕ)) (line : ℕ) (why : Why) : Type 0 where
   pub bytes : List ℕ
   pub lines : List Line
