@@ -1,25 +1,25 @@
 -- What an opening answers, by what the recovery of the log found.
-use Rattle.std.proofs.Common.{◌≡◌, ℕ, ◌+◌, ◌<◌, ◌≤◌, ◌⊎◌, inl, inr, List, [], ◌∷◌, ◌++◌, length, get_or, Result, Ok, Err, IfErr, refl, sym, ap, subst, ◌∙◌, arith}
+use Rattle.std.proofs.Common.{◌≡◌, ℕ, ◌+◌, ◌<◌, ◌≤◌, ◌⊎◌, inl, inr, List, [], ◌∷◌, length, get_or, Result, Ok, Err, IfErr, refl, sym, ap, subst, ◌∙◌, arith}
 use Rattle.std.specs.List.{AllByRecursion}
 use Rattle.std.specs.Result.{IsErrAnd}
 use Rattle.std.proofs.lemmas.List.{append-nil}
 use Rattle.mg_disk.specs.Images.{Image}
 use Rattle.mg_recover.specs.declared.partition.Partition.{Partition}
 use Rattle.mg_recover.specs.Cuts.{IsOpened}
-use Rattle.mg_recover.specs.Made.{entries_of, states_after, AreMade}
+use Rattle.mg_recover.specs.Made.{entries_of, AreMade}
 use Rattle.mg_recover.specs.Openings.{AreWhole, IsGapOf}
 use Rattle.mg_recover.specs.Refusals.{IsGap, IsStoreRefusal, IsStoreRefused, IsUnfit}
-use Rattle.mg_recover.specs.Replays.{replayed, AreGiven, AreReplayed}
+use Rattle.mg_recover.specs.Replays.{AreGiven, AreReplayed}
 use Rattle.mg_recover.specs.Stores.{part_at, Stands}
 use Rattle.mg_types.specs.declared.faults.Fault.{Fault}
 use Rattle.mg_types.specs.declared.faults.Fault.TheVariants as fault
-use Rattle.mg_wal.specs.Book.{changes_of, Book, Entry}
+use Rattle.mg_wal.specs.Book.{changes_of, Book}
 use Rattle.mg_wal.specs.Findings.{IsRefusalBy}
 use Rattle.mg_wal.specs.Lists.{Basis, Books}
-use Rattle.mg_wal.specs.Openings.{basis_for, IsFound, IsFresh, OpensAs}
+use Rattle.mg_wal.specs.Openings.{basis_for, IsFound, OpensAs}
 use Rattle.mg_wal.proofs.CountLaws.{counts_after-same}
 use Rattle.mg_wal_format.specs.declared.record.Rec.{Rec}
-use Rattle.mg_wal_format.specs.Logs.{counts_after, one_more, InOrder, Log}
+use Rattle.mg_wal_format.specs.Logs.{counts_after, one_more, InOrder}
 use Rattle.mg_wal_format.specs.Records.{counts_in, Counts}
 use Rattle.mg_wal_format.specs.Recovery.{low_of, IsRefused}
 

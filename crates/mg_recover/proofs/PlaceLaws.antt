@@ -1,7 +1,7 @@
 -- The place of a record that may not be made.
-use Rattle.std.proofs.Common.{◌≡◌, ℕ, zero, suc, ◌+◌, ◌-◌, ◌*◌, ◌^◌, ◌<◌, ◌≤◌, min, Bool, true, false, leb, if◌then◌else◌, List, [], ◌∷◌, ◌++◌, length, map, take, drop, IfSome, refl, sym, ap, subst, ◌∙◌, arith}
+use Rattle.std.proofs.Common.{◌≡◌, ℕ, zero, suc, ◌+◌, ◌-◌, ◌^◌, ◌<◌, ◌≤◌, min, Bool, true, false, leb, if◌then◌else◌, List, [], ◌∷◌, ◌++◌, length, map, take, drop, IfSome, refl, sym, ap, subst, ◌∙◌, arith}
 use Rattle.std.specs.List.{sum_by, AllByRecursion}
-use Rattle.std.proofs.lemmas.List.{length-append, length-drop, take-append-drop, append-nil}
+use Rattle.std.proofs.lemmas.List.{length-append, length-drop, take-append-drop}
 use Rattle.std.proofs.lemmas.List.Sums.{sum_by-cons}
 use Rattle.std.proofs.lemmas.Bool.Decides.{nat_tests}
 use Rattle.mg_frame.specs.Frame.{frame}
@@ -9,7 +9,7 @@ use Rattle.mg_frame.specs.Frames.{frames}
 use Rattle.mg_frame.proofs.FrameLaws.{length-frame}
 use Rattle.mg_wal_format.specs.declared.record.Rec.{Rec}
 use Rattle.mg_wal_format.specs.Heads.{head_bytes}
-use Rattle.mg_wal_format.specs.Logs.{counts_after, entry_of, one_more, Gives, HeadsRise, InOrder, Log}
+use Rattle.mg_wal_format.specs.Logs.{entry_of, one_more, Gives, HeadsRise, InOrder, Log}
 use Rattle.mg_wal_format.specs.Records.{record_bytes, Counts}
 use Rattle.mg_wal_format.specs.Recovery.{first_of, limit_of, log_file, low_of, offset_behind, HasHeads}
 use Rattle.mg_wal_format.proofs.FoundLaws.{cons_same}

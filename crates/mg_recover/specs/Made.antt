@@ -1,5 +1,5 @@
 -- The changes of records and of a run, and the states to which they lead.
-use Rattle.std.specs.Prelude.{◌≡◌, ℕ, List, [], ◌∷◌, ◌++◌, length, map, ⊤, IsTrue}
+use Rattle.std.specs.Prelude.{ℕ, List, [], ◌∷◌, ◌++◌, map, ⊤, IsTrue}
 use Rattle.mg_model.specs.declared.calls.Change.{Change}
 use Rattle.mg_model.specs.History.{after_change, after_changes, allows, call_for}
 use Rattle.mg_model.specs.Placed.{changes_at, changes_in, Opening, Placed}

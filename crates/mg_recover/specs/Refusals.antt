@@ -1,8 +1,8 @@
 -- Why a store does not open.
-use Rattle.std.specs.Prelude.{◌≡◌, ◌<◌, ◌≤◌, ◌⊎◌, ◌^◌, ◌-◌, min, ℕ, ◌+◌, List, ◌∷◌, ◌++◌, length, false, Some, IfSome, ⊤}
+use Rattle.std.specs.Prelude.{◌≡◌, ◌<◌, ◌≤◌, ◌⊎◌, ◌^◌, ◌-◌, min, ℕ, ◌+◌, List, ◌∷◌, ◌++◌, length, false, IfSome, ⊤}
 use Rattle.mg_disk.specs.Images.{Image}
 use Rattle.mg_model.specs.History.{allows, call_for}
-use Rattle.mg_model.specs.State.{worn, HasRoom, State}
+use Rattle.mg_model.specs.State.{HasRoom, State}
 use Rattle.mg_recover.specs.Answers.{IsAtLimit}
 use Rattle.mg_recover.specs.Made.{entries_of, states_after, AreMade}
 use Rattle.mg_types.specs.declared.faults.Fault.{Fault}

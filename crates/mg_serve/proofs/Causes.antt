@@ -1,5 +1,5 @@
 -- Why a call of a store met its fault, said by what the opening found.
-use Rattle.std.proofs.Common.{◌≡◌, ◌<◌, ◌≤◌, ◌⊎◌, inl, inr, ℕ, ◌+◌, ◌-◌, ◌^◌, Bool, true, false, List, Result, ap, ◌∙◌, arith}
+use Rattle.std.proofs.Common.{◌≡◌, ◌≤◌, inl, inr, ℕ, ◌+◌, ◌-◌, ◌^◌, Bool, true, false, List, Result, ap, ◌∙◌, arith}
 use Rattle.std.specs.Bool.{if◌then◌else◌}
 use Rattle.mg_model.specs.declared.calls.Call.{Call}
 use Rattle.mg_model.specs.declared.calls.Call.TheVariants.{Set, Del, Get, Feed, Mark, Forget, Rollback, Clear, Sync, Compact, Stats}
@@ -7,18 +7,17 @@ use Rattle.mg_model.specs.declared.replies.Reply.{Reply}
 use Rattle.mg_model.specs.Fits.{entered}
 use Rattle.mg_model.specs.Placed.{Placed}
 use Rattle.mg_model.specs.State.{State}
-use Rattle.mg_recover.specs.Answers.{IsCallFault, IsChangeFault, IsServed, IsSyncFault}
-use Rattle.mg_recover.specs.Cuts.{last_change}
+use Rattle.mg_recover.specs.Answers.{IsCallFault, IsChangeFault, IsSyncFault}
 use Rattle.mg_recover.specs.Made.{run_changes}
 use Rattle.mg_recover.proofs.CutLemmas.{book_last}
 use Rattle.mg_script.specs.Script.{IsSpoken}
 use Rattle.mg_script.specs.Transcript.{IsLineFault}
 use Rattle.mg_types.specs.declared.faults.Fault.{Fault}
 use Rattle.mg_types.specs.declared.faults.Fault.TheVariants as fault
-use Rattle.mg_wal.specs.Book.{changes_of, Book, IsWorn}
+use Rattle.mg_wal.specs.Book.{Book, IsWorn}
 use Rattle.mg_wal.specs.Lists.{Basis, Books}
-use Rattle.mg_wal.specs.Syncs.{goes_on, number_for, IsSpent}
-use Rattle.mg_serve.specs.Answers.{changes_had, line_limit, EndsAtLength, IsLogLimit, IsNameLimit, MayAnswer, MayFailSync, MayRefuseChange}
+use Rattle.mg_wal.specs.Syncs.{goes_on, IsSpent}
+use Rattle.mg_serve.specs.Answers.{line_limit, EndsAtLength, IsLogLimit, MayAnswer, MayFailSync, MayRefuseChange}
 
 -- a number of the log at its limit
 log_limit : (basis : Basis) (placed : List Placed) (book : Book) (part : ℕ) (f : Fault) → Books basis (run_changes basis placed) book → IsWorn book part f → IsLogLimit basis placed part f

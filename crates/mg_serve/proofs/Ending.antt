@@ -1,12 +1,12 @@
 -- How a run ends, and what it leaves.
-use Rattle.std.proofs.Common.{◌≡◌, ◌<◌, ◌≤◌, ◌⊎◌, inl, inr, ℕ, zero, suc, ◌+◌, ◌-◌, List, [], ◌∷◌, ◌++◌, length, Bool, Option, Result, Ok, Err, refl, ap, subst, sym, ◌∙◌, arith}
+use Rattle.std.proofs.Common.{◌≡◌, ◌<◌, ◌≤◌, inl, inr, ℕ, zero, suc, ◌+◌, ◌-◌, List, [], ◌∷◌, ◌++◌, length, Bool, Option, Result, Ok, Err, refl, ap, subst, sym, ◌∙◌, arith}
 use Rattle.std.proofs.lemmas.List.{append-nil}
 use Rattle.std.specs.Prelude.{IsTrue, MatchResult}
 use Rattle.std.specs.Io.KnownBytes.{Appends}
 use Rattle.mg_disk.specs.Images.{HoldsBytes, Image, View}
 use Rattle.mg_model.specs.declared.replies.Answer.{Answer}
 use Rattle.mg_model.specs.State.{length_of, State}
-use Rattle.mg_model.specs.Placed.{calls_in, state_in, Placed}
+use Rattle.mg_model.specs.Placed.{calls_in, Placed}
 use Rattle.mg_recover.specs.declared.partition.Partition.{Partition}
 use Rattle.mg_recover.specs.Answers.{CarriesReach}
 use Rattle.mg_recover.specs.Cuts.{LeavesCut}
@@ -20,12 +20,12 @@ use Rattle.mg_wal.specs.Book.{parts_in, Book}
 use Rattle.mg_wal.specs.Lists.{Basis}
 use Rattle.mg_wal.specs.Stories.{Reaches}
 use Rattle.mg_wal.proofs.ReachLaws.{reaches_now, reaches_opens}
-use Rattle.mg_serve.specs.Answers.{line_limit, IsSyncedAt}
-use Rattle.mg_serve.specs.Lasting.{failed_writes, faults_in, Holds, KeepsLog, LeavesAllNow, LeavesCuts, RisesBy}
+use Rattle.mg_serve.specs.Answers.{line_limit}
+use Rattle.mg_serve.specs.Lasting.{Holds, KeepsLog, LeavesAllNow, LeavesCuts, RisesBy}
 use Rattle.mg_serve.specs.Placed.{placed_of}
-use Rattle.mg_serve.specs.Serving.{partition_end, partition_ends, write_count, BreaksInEnds, BreaksInLine, BrokeInEnds, BrokeInLine, Ends, EndsUnsynced, EndsWell, IsEnd, KeepsFrom, LastsFrom, Made, Ran, ServedAll}
-use Rattle.mg_serve.specs.Sessions.{Standing, StandsAt}
-use Rattle.mg_serve.specs.Told.{call_texts, end_text, end_texts, joined, numbered, texts}
+use Rattle.mg_serve.specs.Serving.{partition_end, partition_ends, BrokeInLine, Ends, IsEnd, KeepsFrom, LastsFrom, Made, Ran, ServedAll}
+use Rattle.mg_serve.specs.Sessions.{Standing}
+use Rattle.mg_serve.specs.Told.{call_texts, end_text, end_texts, joined}
 use Rattle.mg_serve.specs.Writing.{StopsInLast}
 use Rattle.mg_serve.proofs.Causes.{sync_fault}
 use Rattle.mg_serve.proofs.Pieces.{appends_after, stops_after}
@@ -116,9 +116,9 @@ ran_broken parts basis lines opening count mid now tells old was view view' stan
           keeps_log basis b.first b.answers opening book partitions view' (stands (placed_of b.first b.answers) made.stands.stands) (bytes t)
           (holds_on basis b.first b.answers opening standing.book book view view' (carries t (placed_of b.first b.answers) made.stands.stands) (made.holds t reaches));
       ends = inl (record {
-            text = subst (λ (u : Option (List ℕ)). StopsInLast w u k k'' (call_texts b.first b.answers) f) (sym same) (subst (λ (n : ℕ). StopsInLast w w' k n (call_texts b.first b.answers) f) (sym sink) b.text);
-            rises = record { enough = omega (arith, made.rises.enough, rises.enough); few = omega (arith, made.rises.few, rises.few) };
-          });
+        text = subst (λ (u : Option (List ℕ)). StopsInLast w u k k'' (call_texts b.first b.answers) f) (sym same) (subst (λ (n : ℕ). StopsInLast w w' k n (call_texts b.first b.answers) f) (sym sink) b.text);
+        rises = record { enough = omega (arith, made.rises.enough, rises.enough); few = omega (arith, made.rises.few, rises.few) };
+      });
     }
 
 -- all calls were served
@@ -149,7 +149,7 @@ pub ran : (parts : ℕ) (basis : Basis) (lines : List Line) (opening count mid n
     (w w' w'' : Option (List ℕ)) (k k' k'' : ℕ) (served : Result Unit Fault) (ended : Result ℕ Fault)
     → length lines ≤ line_limit → parts ≤ parts_in book
     → MatchResult served (λ _. ServedAll lines w w' k k' (λ lines answers. Made basis lines answers standing opening count mid tells old was view))
-      (λ fault. BrokeInLine lines w w' k k' (λ lines answers. Made basis lines answers standing opening count mid tells old was view) fault)
+    (λ fault. BrokeInLine lines w w' k k' (λ lines answers. Made basis lines answers standing opening count mid tells old was view) fault)
     → ((placed : List Placed) → Stands basis placed standing.book standing.partitions → Stands basis placed book partitions)
     → (IsTrue tells → (placed : List Placed) → Stands basis placed standing.book standing.partitions → CarriesReach basis placed placed standing.book book view view')
     → (IsTrue tells → (time : ℕ) (image : Image) → view'.left_since time image → HoldsBytes image)
@@ -181,23 +181,23 @@ ran parts basis lines opening count mid now tells old was view view' standing bo
         → Ends parts basis lines lines a.answers count now (IsTrue tells → Reaches basis [] opening basis.reached old was → LeavesAllNow basis placed view') w w'' k k'' (Err f)
     by_fault f (inl unsynced) =
         inr (inl (record {
-              all = refl;
-              text = subst (λ (u : Option (List ℕ)). Appends w u (joined calls)) (sym unsynced.1) a.text;
-              sink = unsynced.2 ∙ a.sink;
-              why = sync_fault basis standing.book f (omega (arith, a.made.stands.newest, few)) unsynced.0;
-              rises = record { enough = omega (arith, a.made.rises.enough, unsynced.3.enough); few = omega (arith, a.made.rises.few, unsynced.3.few) };
-            }))
+          all = refl;
+          text = subst (λ (u : Option (List ℕ)). Appends w u (joined calls)) (sym unsynced.1) a.text;
+          sink = unsynced.2 ∙ a.sink;
+          why = sync_fault basis standing.book f (omega (arith, a.made.stands.newest, few)) unsynced.0;
+          rises = record { enough = omega (arith, a.made.rises.enough, unsynced.3.enough); few = omega (arith, a.made.rises.few, unsynced.3.few) };
+        }))
     by_fault f (inr broke) =
         let ends = broke.1 in
         inr (inr (record {
-              all = refl;
-              part = ends.part;
-              within = ends.within;
-              text = subst (λ (ts : List (List ℕ)). StopsInLast w w'' k k'' (calls ++ ts) f) (ends_same basis placed book partitions (suc ends.part) stood (omega (arith, ends.within, within)))
-                  (stops_after calls (partition_ends partitions (suc ends.part)) w w' w'' k k' k'' f a.text a.sink ends.text);
-              rises = record { enough = omega (arith, a.made.rises.enough, broke.2); few = omega (arith, a.made.rises.few, broke.2) };
-              lasts = lasts broke.0;
-            }))
+          all = refl;
+          part = ends.part;
+          within = ends.within;
+          text = subst (λ (ts : List (List ℕ)). StopsInLast w w'' k k'' (calls ++ ts) f) (ends_same basis placed book partitions (suc ends.part) stood (omega (arith, ends.within, within)))
+              (stops_after calls (partition_ends partitions (suc ends.part)) w w' w'' k k' k'' f a.text a.sink ends.text);
+          rises = record { enough = omega (arith, a.made.rises.enough, broke.2); few = omega (arith, a.made.rises.few, broke.2) };
+          lasts = lasts broke.0;
+        }))
 
     by_end : (ended : Result ℕ Fault) → IsEnd partitions parts standing.status standing.book book mid now w' w'' k' k'' (Ok done) ended
         → Ends parts basis lines lines a.answers count now (IsTrue tells → Reaches basis [] opening basis.reached old was → LeavesAllNow basis placed view') w w'' k k'' ended

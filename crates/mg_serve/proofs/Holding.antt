@@ -1,5 +1,5 @@
 -- What the log reaches, one call on.
-use Rattle.std.proofs.Common.{◌≡◌, ◌<◌, ◌≤◌, ◌⊎◌, inl, inr, ℕ, ◌+◌, ◌-◌, List, [], ◌∷◌, ◌++◌, length, Result, Ok, Err, refl, ap, subst, sym, ◌∙◌, arith}
+use Rattle.std.proofs.Common.{◌≡◌, ◌≤◌, ◌⊎◌, inl, inr, ℕ, ◌-◌, List, [], ◌∷◌, ◌++◌, Ok, ap, subst, sym, ◌∙◌, arith}
 use Rattle.std.proofs.lemmas.List.{append_assoc, append-nil}
 use Rattle.mg_disk.specs.Images.{Image, View}
 use Rattle.mg_model.specs.declared.replies.Answer.{Answer}
@@ -9,10 +9,9 @@ use Rattle.mg_recover.specs.declared.partition.Partition.{Partition}
 use Rattle.mg_recover.specs.Answers.{CarriesReach, IsAnswered}
 use Rattle.mg_recover.specs.Cuts.{last_change}
 use Rattle.mg_recover.specs.Made.{run_changes}
-use Rattle.mg_recover.specs.Stores.{AllSynced, Stands}
 use Rattle.mg_recover.proofs.CutLemmas.{book_last}
 use Rattle.mg_script.specs.declared.script.Line.{Line}
-use Rattle.mg_wal.specs.Book.{synced_of, Book}
+use Rattle.mg_wal.specs.Book.{Book}
 use Rattle.mg_wal.specs.Lists.{Basis}
 use Rattle.mg_wal.specs.Stories.{Reaches}
 use Rattle.mg_wal.proofs.ReachLaws.{reaches_now}
@@ -70,8 +69,7 @@ holds_next basis lines answers line answer opening old new now view view' fit an
         (it.0, it.1, it.2, it.3, carried it.0 it.1 it.4)
     by_case number (inr last) =
         let books = answered.stands.books in
-        let sure = answered.synced last.0 in
-        (
+        let sure = answered.synced last.0 in (
           view'.moment,
           new.reach,
           omega (arith, last.1, sure, book_last basis (placed ++ placed_by line answer) new books),

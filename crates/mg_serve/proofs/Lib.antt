@@ -5,7 +5,7 @@ mod Shown
 mod Causes
 mod Standing
 mod Holding
-mod Pieces
+pub mod Pieces
 mod Rising
 mod ServingLemmas
 mod Ending

@@ -1,8 +1,6 @@
 -- How often the volume of the log failed.
-use Rattle.std.proofs.Common.{◌≡◌, ◌≤◌, ℕ, ◌+◌, List, [], ◌∷◌, ◌++◌, Bool, true, false, cond, Result, Ok, Err, refl, ap, sym, ◌∙◌, arith, min}
-use Rattle.std.specs.Prelude.{IfErr, OnOk}
-use Rattle.std.specs.Result.{IsErrOf}
-use Rattle.mg_faults.specs.Causes.{raised, CountsOnce, HasCause, Rose}
+use Rattle.std.proofs.Common.{◌≡◌, ◌≤◌, ℕ, ◌+◌, List, [], ◌∷◌, ◌++◌, cond, Result, Ok, Err, refl, arith}
+use Rattle.mg_faults.specs.Causes.{raised, CountsOnce, HasCause}
 use Rattle.mg_model.specs.declared.replies.Answer.{Answer}
 use Rattle.mg_model.specs.declared.replies.Reply.{Reply}
 use Rattle.mg_types.specs.declared.faults.Fault.{Fault}

@@ -1,5 +1,5 @@
 -- All calls, one after the other.
-use Rattle.std.proofs.Common.{◌≡◌, ◌<◌, ◌≤◌, ℕ, ◌+◌, List, [], ◌∷◌, ◌++◌, length, Bool, Option, Result, Ok, Err, refl, ap, subst, sym, ◌∙◌, arith}
+use Rattle.std.proofs.Common.{◌≡◌, ◌<◌, ◌≤◌, ℕ, List, [], ◌∷◌, ◌++◌, length, Bool, Option, Result, Ok, Err, ap, subst, sym, ◌∙◌, arith}
 use Rattle.std.specs.Iterator.{Yields}
 use Rattle.std.proofs.lemmas.List.{append_assoc, append-nil, length-append, length_push, nil_from_length}
 use Rattle.std.specs.Prelude.{IsTrue}
@@ -16,7 +16,7 @@ use Rattle.mg_wal.specs.Lists.{Basis}
 use Rattle.mg_serve.specs.Answers.{line_limit}
 use Rattle.mg_serve.specs.Lasting.{Holds}
 use Rattle.mg_serve.specs.Serving.{BrokeInLine, Made, ServedAll, ServedNext}
-use Rattle.mg_serve.specs.Sessions.{Standing, StandsAt}
+use Rattle.mg_serve.specs.Sessions.{Standing}
 use Rattle.mg_serve.specs.Told.{call_texts, joined, numbered_answer, numbered_text}
 use Rattle.mg_serve.specs.Writing.{StopsInLast}
 use Rattle.mg_serve.proofs.Answering.{joined-push, texts-push}

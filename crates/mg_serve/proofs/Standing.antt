@@ -1,5 +1,5 @@
 -- Where a session stands, one call on.
-use Rattle.std.proofs.Common.{◌≡◌, ◌<◌, ◌≤◌, ◌^◌, ℕ, ◌+◌, List, [], ◌∷◌, ◌++◌, length, Bool, Option, None, Some, Result, Ok, Err, refl, ap, subst, sym, ◌∙◌, arith}
+use Rattle.std.proofs.Common.{◌≡◌, ◌<◌, ◌≤◌, ℕ, ◌+◌, List, [], ◌∷◌, length, Bool, Option, None, Some, Result, Ok, Err, ap, subst, sym, ◌∙◌, arith}
 use Rattle.std.specs.Prelude.{IfErr, IfOk}
 use Rattle.std.specs.Bool.{◌==◌}
 use Rattle.std.specs.List.{count_by, filter, slice_index, slice_set}
@@ -10,7 +10,7 @@ use Rattle.mg_model.specs.declared.calls.Call.TheVariants.{Set, Del, Get, Feed, 
 use Rattle.mg_model.specs.declared.replies.Answer.{Answer}
 use Rattle.mg_model.specs.declared.replies.Reply.{Reply}
 use Rattle.mg_model.specs.Fits.{entered}
-use Rattle.mg_model.specs.Placed.{calls_in, history_in, state_in, Placed}
+use Rattle.mg_model.specs.Placed.{calls_in, state_in, Placed}
 use Rattle.mg_model.specs.State.{State}
 use Rattle.mg_recover.specs.declared.partition.Partition.{Partition}
 use Rattle.mg_recover.specs.Answers.{IsAnswered, IsCallFault}
@@ -21,10 +21,10 @@ use Rattle.mg_script.specs.declared.script.Line.{Line}
 use Rattle.mg_script.specs.Script.{IsSpoken}
 use Rattle.mg_script.specs.Transcript.{IsLineFault}
 use Rattle.mg_types.specs.declared.faults.Fault.{Fault}
-use Rattle.mg_wal.specs.Book.{parts_in, Book}
+use Rattle.mg_wal.specs.Book.{Book}
 use Rattle.mg_wal.specs.Lists.{Basis}
 use Rattle.mg_serve.specs.Placed.{placed_by, placed_of}
-use Rattle.mg_serve.specs.Answers.{line_limit, AllFit, EndsAtLength, FitsNext, MayAnswer}
+use Rattle.mg_serve.specs.Answers.{line_limit, EndsAtLength, FitsNext, MayAnswer}
 use Rattle.mg_serve.specs.Sessions.{NextAnswer, Standing, StandsAt}
 use Rattle.mg_serve.specs.Statuses.{graver, result_status}
 use Rattle.mg_serve.proofs.Answering.{fit-push, placed-push, status-push}

@@ -1,12 +1,12 @@
 -- What lasts of the changes of a run, and how often the volume of its log failed.
-use Rattle.std.specs.Prelude.{◌≡◌, ◌≤◌, ℕ, ◌+◌, ◌-◌, List, [], Bool, true, false, Result, Ok, Err}
+use Rattle.std.specs.Prelude.{◌≤◌, ℕ, ◌+◌, ◌-◌, List, [], Bool, true, false, Result, Ok, Err}
 use Rattle.std.specs.List.{count_by}
 use Rattle.mg_disk.specs.Images.{Image, View}
 use Rattle.mg_faults.specs.Causes.{raised}
 use Rattle.mg_model.specs.declared.replies.Answer.{Answer}
 use Rattle.mg_model.specs.declared.replies.Reply.{Reply}
 use Rattle.mg_model.specs.Placed.{Placed}
-use Rattle.mg_recover.specs.Cuts.{last_change, LeavesAll, LeavesCut}
+use Rattle.mg_recover.specs.Cuts.{LeavesAll, LeavesCut}
 use Rattle.mg_recover.specs.Made.{run_changes}
 use Rattle.mg_script.specs.declared.script.Line.{Line}
 use Rattle.mg_types.specs.declared.faults.Fault.{Fault}

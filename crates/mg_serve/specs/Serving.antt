@@ -2,7 +2,7 @@
 use Rattle.std.specs.Prelude.{◌≡◌, ◌<◌, ◌⊎◌, ℕ, zero, suc, ◌+◌, List, [], ◌∷◌, ◌++◌, Bool, IsTrue, Option, Result, Ok, Err}
 use Rattle.std.specs.Io.KnownBytes.{Appends}
 use Rattle.mg_disk.specs.Images.{View}
-use Rattle.mg_faults.specs.Causes.{HasCause, CountsOnce, RoseOnce}
+use Rattle.mg_faults.specs.Causes.{HasCause, CountsOnce}
 use Rattle.mg_model.specs.declared.replies.Answer.{Answer}
 use Rattle.mg_model.specs.State.{length_of}
 use Rattle.mg_recover.specs.declared.partition.Partition.{Partition}

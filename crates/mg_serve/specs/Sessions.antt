@@ -3,7 +3,6 @@ use Rattle.std.specs.Prelude.{◌≡◌, ◌<◌, ◌≤◌, ℕ, ◌+◌, List,
 use Rattle.std.specs.List.{count_by}
 use Rattle.mg_model.specs.declared.replies.Answer.{Answer}
 use Rattle.mg_recover.specs.declared.partition.Partition.{Partition}
-use Rattle.mg_recover.specs.declared.store.Store.{Store}
 use Rattle.mg_recover.specs.Stores.{log_book, log_volume, partitions_of, Stands}
 use Rattle.mg_script.specs.declared.script.Line.{Line}
 use Rattle.mg_wal.specs.Book.{Book}

@@ -47,9 +47,9 @@ pub fn serve<V: Volume, K: Sink>(
     requires stands { (basis : Basis) × Stands basis [] (log_book store) (partitions_of store) × ((log_book store).newest ≤ basis.newest) }
     ensures { (basis : Basis) (opening : ℕ) → Stands basis [] (log_book store) (partitions_of store) → (log_book store).newest ≤ basis.newest
         → Ran parts basis lines.items (V.faults (log_volume store)) (V.faults result.vol)
-          (KeepsFrom V.tells basis opening (log_book store) (V.view (log_volume store)) (V.view result.vol))
-          (LastsFrom V.tells basis opening (log_book store) (V.view (log_volume store)) (V.view result.vol))
-          (K.written out.old) (K.written out.new) (K.faults out.old) (K.faults out.new) result.ended }
+        (KeepsFrom V.tells basis opening (log_book store) (V.view (log_volume store)) (V.view result.vol))
+        (LastsFrom V.tells basis opening (log_book store) (V.view (log_volume store)) (V.view result.vol))
+        (K.written out.old) (K.written out.new) (K.faults out.old) (K.faults out.new) result.ended }
 {
     let mut session = Session::new(store);
     let served = serve_all(alloc, &mut session, lines, out);
@@ -106,12 +106,12 @@ fn serve_all<V: Volume, K: Sink>(
     ensures parts { parts_in (standing_of session.new).book ≡ parts_in (standing_of session.old).book }
     ensures served { (basis : Basis) (opening : ℕ) → StandsAt basis [] [] (standing_of session.old)
         → MatchResult result
-          (λ _. ServedAll lines.items (K.written out.old) (K.written out.new) (K.faults out.old) (K.faults out.new)
-            (λ lines answers. Made basis lines answers (standing_of session.new) opening (V.faults (session_volume session.old)) (V.faults (session_volume session.new))
-              V.tells (standing_of session.old).book (V.view (session_volume session.old)) (V.view (session_volume session.new))))
-          (λ fault. BrokeInLine lines.items (K.written out.old) (K.written out.new) (K.faults out.old) (K.faults out.new)
-            (λ lines answers. Made basis lines answers (standing_of session.new) opening (V.faults (session_volume session.old)) (V.faults (session_volume session.new))
-              V.tells (standing_of session.old).book (V.view (session_volume session.old)) (V.view (session_volume session.new))) fault) }
+        (λ _. ServedAll lines.items (K.written out.old) (K.written out.new) (K.faults out.old) (K.faults out.new)
+        (λ lines answers. Made basis lines answers (standing_of session.new) opening (V.faults (session_volume session.old)) (V.faults (session_volume session.new))
+        V.tells (standing_of session.old).book (V.view (session_volume session.old)) (V.view (session_volume session.new))))
+        (λ fault. BrokeInLine lines.items (K.written out.old) (K.written out.new) (K.faults out.old) (K.faults out.new)
+        (λ lines answers. Made basis lines answers (standing_of session.new) opening (V.faults (session_volume session.old)) (V.faults (session_volume session.new))
+        V.tells (standing_of session.old).book (V.view (session_volume session.old)) (V.view (session_volume session.new))) fault) }
 {
     for line in lines {
         session.serve(alloc, line, out)?;

@@ -96,7 +96,12 @@ impl<V: Volume> Session<V> {
     }
 
     /// Answers the call of a line, and writes the line of its answer.
-    pub(crate) fn serve<K: Sink>(&mut self, alloc: Global, line: Line, out: &mut K) -> Result<(), Fault>
+    pub(crate) fn serve<K: Sink>(
+        &mut self,
+        alloc: Global,
+        line: Line,
+        out: &mut K,
+    ) -> Result<(), Fault>
         requires form { IsLine (parts_in (standing_of self.old).book) line }
         requires reached { IsReached (standing_of self.old) }
         ensures later { K.faults out.old ≤ K.faults out.new }
@@ -104,9 +109,9 @@ impl<V: Volume> Session<V> {
         ensures parts { parts_in (standing_of self.new).book ≡ parts_in (standing_of self.old).book }
         ensures served { (basis : Basis) (lines : List Line) (answers : List Answer) → StandsAt basis lines answers (standing_of self.old) → length lines < line_limit
             → ServedNext basis lines answers line (standing_of self.new) (V.faults (session_volume self.old)) (V.faults (session_volume self.new))
-              (K.written out.old) (K.written out.new) (K.faults out.old) (K.faults out.new) result
-              (λ answer. IsTrue V.tells → (opening : ℕ) → Holds basis lines answers opening (standing_of self.old).book (V.view (session_volume self.old))
-                → Holds basis (lines ++ line ∷ []) (answers ++ answer ∷ []) opening (standing_of self.new).book (V.view (session_volume self.new))) }
+            (K.written out.old) (K.written out.new) (K.faults out.old) (K.faults out.new) result
+            (λ answer. IsTrue V.tells → (opening : ℕ) → Holds basis lines answers opening (standing_of self.old).book (V.view (session_volume self.old))
+            → Holds basis (lines ++ line ∷ []) (answers ++ answer ∷ []) opening (standing_of self.new).book (V.view (session_volume self.new))) }
     {
         let client = line.client;
         let part = line.part;

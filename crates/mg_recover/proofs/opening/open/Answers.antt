@@ -1,4 +1,3 @@
-use Rattle.std.proofs.Common.{sym}
 use Rattle.mg_recover.specs.Refusals.{IsStoreRefusal, IsStoreRefused}
 use Rattle.mg_wal.specs.States.{book_of}
 use Rattle.mg_recover.proofs.OpenLaws.{if_err, opened_as, recovery_refused, refused_as}

@@ -1,9 +1,7 @@
-use Rattle.std.proofs.Common.{refl}
-use Rattle.mg_recover.specs.Replays.{AreGiven}
 use Rattle.mg_types.specs.declared.faults.Fault.TheVariants as fault
 use Rattle.mg_types.specs.declared.names.FileId.{FileId}
 use Rattle.mg_wal_format.specs.Recovery.{log_file}
-use Rattle.std.proofs.Common.{ap, ℕ}
+use Rattle.std.proofs.Common.{ap}
 use Rattle.mg_recover.proofs.PlaceLaws.{placed_at, some_log}
 use Rattle.mg_recover.proofs.replay.forbidden.Goals as goal
 

@@ -1,18 +1,13 @@
-use Rattle.std.proofs.Common.{◌≡◌, ◌⊎◌, inl, inr, ℕ, ◌+◌, ◌<◌, Bool, List, length, get_or, take, false, true, IsTrue, sym, ap, subst, ◌∙◌, arith}
+use Rattle.std.proofs.Common.{◌≡◌, ◌⊎◌, inr, List, take, false, IsTrue, sym, subst, ◌∙◌, arith}
 use Rattle.std.proofs.lemmas.Grind.{common_steps}
 use Rattle.std.proofs.Math.ListN.{length-set}
-use Rattle.mg_model.specs.History.{allows, call_for}
-use Rattle.mg_model.specs.State.{HasRoom, State}
-use Rattle.mg_recover.specs.Answers.{IsAtLimit}
-use Rattle.mg_recover.specs.Made.{entries_of, states_after, AreMade}
+use Rattle.mg_model.specs.History.{allows}
+use Rattle.mg_recover.specs.Made.{entries_of, AreMade}
 use Rattle.mg_recover.specs.Refusals.{IsUnfit}
-use Rattle.mg_recover.specs.Replays.{replayed}
-use Rattle.mg_types.specs.declared.faults.Fault.{Fault}
 use Rattle.mg_types.specs.declared.faults.Fault.TheVariants.{NoMemory}
 use Rattle.mg_wal_format.specs.declared.record.Rec.{Rec}
-use Rattle.mg_wal_format.specs.Logs.{Log}
 use Rattle.mg_wal_format.proofs.ReadingLaws.{err_is}
-use Rattle.mg_recover.proofs.ReplayLaws.{given_at, made_step, old_is, part_of, plain_is, states_step, unfit_at, unfit_forbidden, unfit_limit, IsMadeAt}
+use Rattle.mg_recover.proofs.ReplayLaws.{given_at, made_step, old_is, part_of, states_step, unfit_at, unfit_forbidden, unfit_limit, IsMadeAt}
 use Rattle.mg_recover.proofs.replay.replay.Goals as goal
 
 pub returns-in_err-make-clause-unfit : goal.returns-in_err-make-clause-unfit

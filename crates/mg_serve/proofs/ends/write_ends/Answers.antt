@@ -1,4 +1,3 @@
-use Rattle.std.proofs.Common.{◌≡◌}
 use Rattle.mg_recover.specs.Stores.{partitions_of}
 use Rattle.mg_serve.specs.Serving.{partition_end, partition_ends, BrokeInEnds}
 use Rattle.mg_serve.proofs.Pieces.{match_err, stops_behind}

@@ -1,4 +1,4 @@
-use Rattle.std.proofs.Common.{◌≡◌, ◌∙◌, ap, arith, sym}
+use Rattle.std.proofs.Common.{ap, arith, sym}
 use Rattle.mg_wal.specs.Book.{parts_in}
 use Rattle.mg_serve.proofs.Ending.{ran}
 use Rattle.mg_serve.proofs.serving.serve.Goals as goal

@@ -1,8 +1,7 @@
-use Rattle.std.proofs.Common.{◌≡◌, ◌<◌, ◌++◌, ◌∷◌, ◌∙◌, [], ap, arith, length, subst, sym}
-use Rattle.std.proofs.lemmas.List.{length-append}
+use Rattle.std.proofs.Common.{◌≡◌, ◌<◌, ◌∙◌, arith, length, subst}
 use Rattle.std.specs.Vec.Iter.{into_iter_items}
 use Rattle.mg_serve.specs.Answers.{line_limit}
-use Rattle.mg_serve.specs.Serving.{BrokeInLine, Made, ServedAll}
+use Rattle.mg_serve.specs.Serving.{Made, ServedAll}
 use Rattle.mg_serve.specs.Sessions.{session_volume, standing_of}
 use Rattle.mg_serve.proofs.Pieces.{match_err}
 use Rattle.mg_serve.proofs.ServingLemmas.{all_given, broke_on, few_given, next_given, served_on}
@@ -31,7 +30,7 @@ loop-line-preserved g c = record {
       let lines = c.loop-line.yielded in
       let so_far = c.loop-line.invariant.served basis opening begun in
       let few : length lines < line_limit = few_given c.args.lines.items lines c.in-Some.line (into_iter_items c.next.new.self) c.requires.few
-          (next_given c.args.lines.items c.into_iter-line-iterator.result lines c.loop-line.line-iterator c.next.new.self c.in-Some.line c.into_iter-line-iterator.ensures.into_iter_gives.0 c.loop-line.yielded_by c.in-Some.ensures.steps.0) in
+      (next_given c.args.lines.items c.into_iter-line-iterator.result lines c.loop-line.line-iterator c.next.new.self c.in-Some.line c.into_iter-line-iterator.ensures.into_iter_gives.0 c.loop-line.yielded_by c.in-Some.ensures.steps.0) in
       served_on basis lines c.in-Some.line _ _ opening _ _ _ _ _ _ _ _ _ _ _ _ _ _ so_far (c.in_ok-serve.ensures.served basis lines so_far.answers so_far.made.stands few) c.in_ok-serve.ensures.good;
 }
 
@@ -54,6 +53,6 @@ pub returns-clause-served : goal.returns-clause-served
 returns-clause-served g c = λ basis opening begun.
     let all : c.loop-line.yielded ≡ c.args.lines.items = all_given c.args.lines.items c.into_iter-line-iterator.result c.loop-line.yielded c.loop-line.line-iterator c.into_iter-line-iterator.ensures.into_iter_gives.0 c.loop-line.yielded_by c.in-None.ensures.steps.0 in
     subst (λ lines. ServedAll lines (g.K.Sink.written c.args.out.now) (g.K.Sink.written c.loop-line.out) (g.K.Sink.faults c.args.out.now) (g.K.Sink.faults c.loop-line.out)
-        (λ lines answers. Made basis lines answers (standing_of c.loop-line.session) opening (g.V.Volume.faults (session_volume c.args.session.now)) (g.V.Volume.faults (session_volume c.loop-line.session))
-          g.V.Volume.tells (standing_of c.args.session.now).book (g.V.Volume.view (session_volume c.args.session.now)) (g.V.Volume.view (session_volume c.loop-line.session)))) all
+    (λ lines answers. Made basis lines answers (standing_of c.loop-line.session) opening (g.V.Volume.faults (session_volume c.args.session.now)) (g.V.Volume.faults (session_volume c.loop-line.session))
+    g.V.Volume.tells (standing_of c.args.session.now).book (g.V.Volume.view (session_volume c.args.session.now)) (g.V.Volume.view (session_volume c.loop-line.session)))) all
     (c.loop-line.invariant.served basis opening begun)

@@ -1,7 +1,4 @@
 use Rattle.std.proofs.Common.{◌≡◌, ℕ, []}
-use Rattle.std.specs.Io.KnownBytes.{Appends}
-use Rattle.mg_disk.specs.Images.{View}
-use Rattle.mg_model.specs.declared.replies.Answer.{Answer}
 use Rattle.mg_serve.specs.Serving.{Made, ServedAll}
 use Rattle.mg_serve.specs.Sessions.{session_volume, standing_of, StandsAt}
 use Rattle.mg_wal.specs.Book.{parts_in}
@@ -15,6 +12,6 @@ invariant-loop-line g l = record {
   parts : parts_in (standing_of l.session).book ≡ parts_in (standing_of l.fn.session).book;
   served : (basis : Basis) (opening : ℕ) → StandsAt basis [] [] (standing_of l.fn.session)
       → ServedAll l.yielded (g.K.Sink.written l.fn.out) (g.K.Sink.written l.out) (g.K.Sink.faults l.fn.out) (g.K.Sink.faults l.out)
-        (λ lines answers. Made basis lines answers (standing_of l.session) opening (g.V.Volume.faults (session_volume l.fn.session)) (g.V.Volume.faults (session_volume l.session))
-          g.V.Volume.tells (standing_of l.fn.session).book (g.V.Volume.view (session_volume l.fn.session)) (g.V.Volume.view (session_volume l.session)));
+      (λ lines answers. Made basis lines answers (standing_of l.session) opening (g.V.Volume.faults (session_volume l.fn.session)) (g.V.Volume.faults (session_volume l.session))
+      g.V.Volume.tells (standing_of l.fn.session).book (g.V.Volume.view (session_volume l.fn.session)) (g.V.Volume.view (session_volume l.session)));
 }

@@ -1,5 +1,4 @@
-use Rattle.std.proofs.Common.{◌≡◌, ◌≤◌, ◌+◌, ◌∙◌, ap, arith, refl, sym}
-use Rattle.mg_recover.specs.Answers.{placed_for}
+use Rattle.std.proofs.Common.{◌∙◌, ap, arith}
 use Rattle.mg_serve.specs.Placed.{placed_of}
 use Rattle.mg_serve.specs.Statuses.{graver}
 use Rattle.mg_serve.proofs.Holding.{holds_next}
