@@ -1,8 +1,2 @@
-pub mod Answering
-pub mod Ends
-pub mod Entries
-pub mod Pieces
-pub mod ServingLemmas
-pub mod Standing
-pub mod Told
-pub mod Shown
+mod Pieces
+mod HostLaws

@@ -1,16 +1,16 @@
--- Reading and writing piece by piece, as loops do.
-use Rattle.std.proofs.Common.{◌≡◌, ◌≤◌, ℕ, ◌+◌, ◌-◌, List, ◌++◌, length, take, drop, Option, ap, sym, ◌∙◌, arith}
-use Rattle.std.proofs.lemmas.List.{append_assoc, length-append, take-append-drop}
-use Rattle.mg_faults.specs.Causes.{RoseOnce}
-use Rattle.mg_types.specs.declared.faults.Fault.{Fault}
-use Rattle.mg_types.specs.declared.faults.Fault.TheVariants as fault
-use Rattle.mg_run.specs.Runs.{FailsRead, StopsReading, script_limit}
+-- Reading piece by piece, and what a script that was read is.
+use Rattle.std.proofs.Common.{◌≡◌, ◌≤◌, ℕ, ◌+◌, ◌-◌, List, ◌++◌, length, Option, Result, Ok, Err, ap, subst, sym, ◌∙◌, arith}
+use Rattle.std.specs.Prelude.{IfErr, IfOk, MatchResult}
+use Rattle.std.specs.Result.{IsErrAnd}
 use Rattle.std.specs.Io.KnownBytes.{Consumes}
 use Rattle.std.proofs.KnownBytes.{Consumes-kept, Consumes-trans}
-
--- a count that rose by one after it had stayed rose by one in all
-pub rose_since : (first before now : ℕ) → before ≡ first → RoseOnce before now → RoseOnce first now
-rose_since first before now same rose = cc
+use Rattle.std.proofs.lemmas.List.{length-append}
+use Rattle.mg_script.specs.declared.script.Line.{Line}
+use Rattle.mg_script.specs.Script.{script_of, Refuses}
+use Rattle.mg_serve.proofs.Pieces.{rose_since}
+use Rattle.mg_types.specs.declared.faults.Fault.{Fault}
+use Rattle.mg_types.specs.declared.faults.Fault.TheVariants as fault
+use Rattle.mg_run.specs.Runs.{script_limit, FailsRead, ReadsAll, ReadsScript, StopsInput, StopsReading}
 
 -- a read that fails stops the reading
 pub stops_reading : (left mid left' : Option (List ℕ)) (bytes : List ℕ) (first before now : ℕ) (f : Fault) → Consumes left mid bytes → length bytes ≤ script_limit → before ≡ first → FailsRead mid left' (script_limit + 1 - length bytes) before now f → StopsReading left left' first now f
@@ -28,6 +28,46 @@ stops_reading left mid left' bytes first before now (fault.Malformed file at) t 
 stops_reading left mid left' bytes first before now (fault.Worn kept) t few l r = r
 stops_reading left mid left' bytes first before now fault.WriteFault t few l r = r
 
--- one piece more was written
-pub split_on : (bytes front rest behind : List ℕ) (n : ℕ) → bytes ≡ front ++ rest → behind ≡ drop n rest → bytes ≡ (front ++ take n rest) ++ behind
-split_on bytes front rest behind n e d = e ∙ ap (λ (l : List ℕ). front ++ l) (sym (take-append-drop n rest)) ∙ sym (append_assoc front (take n rest) (drop n rest)) ∙ ap (λ (l : List ℕ). (front ++ take n rest) ++ l) (sym d)
+-- reading that stopped is input that stopped
+pub stops_input : (parts : ℕ) (left left' : Option (List ℕ)) (faults faults' : ℕ) (f : Fault) → StopsReading left left' faults faults' f → StopsInput parts left left' faults faults' f
+stops_input parts left left' faults faults' fault.NoMemory s = s
+stops_input parts left left' faults faults' fault.ReadFault s = s
+stops_input parts left left' faults faults' fault.WriteFault s = s
+stops_input parts left left' faults faults' (fault.Damaged file at kept found) s = s
+stops_input parts left left' faults faults' (fault.Missing file) s = s
+stops_input parts left left' faults faults' (fault.Gap part applied low high) s = s
+stops_input parts left left' faults faults' (fault.BadLine line why) s = absurd s
+stops_input parts left left' faults faults' (fault.TooLong limit) s = s
+stops_input parts left left' faults faults' fault.BadWords s = s
+stops_input parts left left' faults faults' (fault.BadSettings at) s = s
+stops_input parts left left' faults faults' (fault.FewerParts asked kept) s = s
+stops_input parts left left' faults faults' (fault.Malformed file at) s = s
+stops_input parts left left' faults faults' (fault.Worn kept) s = s
+
+-- a whole input that is refused as a script
+refuses_input : (parts : ℕ) (left left' : Option (List ℕ)) (faults faults' : ℕ) (bytes : List ℕ) (f : Fault) → ReadsAll left left' bytes → faults' ≡ faults → Refuses f (script_of parts bytes) → StopsInput parts left left' faults faults' f
+refuses_input parts left left' faults faults' bytes fault.NoMemory r k s = record { bytes = bytes; taken = r.taken; in_limit = omega (arith, r.in_limit) }
+refuses_input parts left left' faults faults' bytes (fault.BadLine line why) r k s = (record { bytes = bytes; read = r; script = s }, k)
+refuses_input parts left left' faults faults' bytes fault.ReadFault r k s = absurd s
+refuses_input parts left left' faults faults' bytes fault.WriteFault r k s = s
+refuses_input parts left left' faults faults' bytes (fault.Damaged file at kept found) r k s = s
+refuses_input parts left left' faults faults' bytes (fault.Missing file) r k s = s
+refuses_input parts left left' faults faults' bytes (fault.Gap part applied low high) r k s = s
+refuses_input parts left left' faults faults' bytes (fault.TooLong limit) r k s = absurd s
+refuses_input parts left left' faults faults' bytes fault.BadWords r k s = s
+refuses_input parts left left' faults faults' bytes (fault.BadSettings at) r k s = s
+refuses_input parts left left' faults faults' bytes (fault.FewerParts asked kept) r k s = s
+refuses_input parts left left' faults faults' bytes (fault.Malformed file at) r k s = s
+refuses_input parts left left' faults faults' bytes (fault.Worn kept) r k s = s
+
+-- what a whole input is as a script
+pub reads_script : {X : Type 0} (items : X → List Line) (parts : ℕ) (left left' : Option (List ℕ)) (faults faults' : ℕ) (bytes : List ℕ) (given : Result X Fault) → ReadsAll left left' bytes → faults' ≡ faults
+    → IfOk given (λ lines. script_of parts bytes ≡ Ok (items lines)) → IfErr given (λ f. Refuses f (script_of parts bytes))
+    → MatchResult given (λ lines. ReadsScript parts left left' (items lines)) (λ f. StopsInput parts left left' faults faults' f)
+reads_script items parts left left' faults faults' bytes (Ok lines) r k ok err = record { bytes = bytes; read = r; script = ok }
+reads_script items parts left left' faults faults' bytes (Err f) r k ok err = refuses_input parts left left' faults faults' bytes f r k err
+
+-- the result is this error
+pub is_err : {T E : Type 0} (given : Result T E) (error : E) → IsErrAnd given (λ e. e ≡ error) → given ≡ Err error
+is_err (Ok x) error is = absurd is
+is_err (Err e) error is = ap Err is

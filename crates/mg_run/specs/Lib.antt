@@ -1,5 +1,3 @@
 pub mod Words
-pub mod Placed
-pub mod Answers
+pub mod Hosting
 pub mod Runs
-pub mod Sessions

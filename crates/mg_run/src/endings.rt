@@ -1,15 +1,15 @@
 //! The end of the program: its status, and what it says of a fault.
 
-ghost use Rattle.std.specs.Prelude.{◌≡◌, ◌++◌, IsOkUnless, MatchOption, MatchResult, Ok, OnOk};
-ghost use Rattle.std.specs.Io.KnownBytes.{Appends};
+ghost use Rattle.std.specs.Prelude.{◌≡◌, ◌++◌, IsOkUnless, MatchOption, Ok, OnOk};
 ghost use Rattle.std.specs.Process.{exit_status};
-ghost use Rattle.mg_run.specs.Runs.{complaint, StopsWriting};
+ghost use Rattle.mg_run.specs.Runs.{complaint};
+ghost use Rattle.mg_serve.specs.Writing.{Wrote};
 
 use crate::single::Ran;
-use crate::streams::write_all;
 use mg_io::Sink;
 use mg_model::Fault;
 use mg_script::fault_text;
+use mg_serve::write_all;
 use std::alloc::Global;
 use std::process::ExitCode;
 
@@ -28,8 +28,7 @@ pub struct Ending {
 pub fn end_program<K: Sink>(alloc: Global, ran: &Ran, error: &mut K) -> Ending
     ensures status { exit_status result.code ≡ ran.now.status }
     ensures said { MatchOption ran.now.fault ((error.new ≡ error.old) × (result.said ≡ Ok tt))
-        (λ fault. MatchResult result.said (λ _. Appends (K.written error.old) (K.written error.new) (complaint fault))
-        (λ cause. StopsWriting (K.written error.old) (K.written error.new) (K.faults error.old) (K.faults error.new) (complaint fault) cause)) }
+        (λ fault. Wrote (K.written error.old) (K.written error.new) (K.faults error.old) (K.faults error.new) (complaint fault) result.said) }
     ensures good { OnOk result.said (K.faults error.new ≡ K.faults error.old) }
 {
     let said = match &ran.fault {
@@ -43,15 +42,12 @@ pub fn end_program<K: Sink>(alloc: Global, ran: &Ran, error: &mut K) -> Ending
 }
 
 fn say<K: Sink>(alloc: Global, fault: &Fault, error: &mut K) -> Result<(), Fault>
-    ensures said { MatchResult result (λ _. Appends (K.written error.old) (K.written error.new) (complaint fault.now))
-        (λ cause. StopsWriting (K.written error.old) (K.written error.new) (K.faults error.old) (K.faults error.new) (complaint fault.now) cause) }
+    ensures said { Wrote (K.written error.old) (K.written error.new) (K.faults error.old) (K.faults error.new) (complaint fault.now) result }
     ensures good { OnOk result (K.faults error.new ≡ K.faults error.old) }
 {
     let mut text = Vec::new(alloc);
-    match put_complaint(fault, &mut text) {
-        Ok(()) => write_all(error, &text),
-        Err(cause) => Err(cause),
-    }
+    put_complaint(fault, &mut text)?;
+    write_all(error, &text)
 }
 
 fn put_complaint(fault: &Fault, text: &mut Vec<u8>) -> Result<(), Fault>

@@ -1,20 +1,18 @@
 //! One thread, from the bytes in to the bytes out.
 
-ghost use Rattle.std.specs.Prelude.{◌≡◌, ◌≤◌, true, false, ◌↔◌, IfSome, MatchOption, MatchResult, OnOk};
-ghost use Rattle.std.specs.Io.KnownBytes.{Appends};
-ghost use Rattle.mg_model.specs.Placed.{empty_opening};
-ghost use Rattle.std.specs.List.{All};
-ghost use Rattle.mg_run.specs.Runs.{fault_status, Finishes, IsFirstSync, NotSync, Seen, Stops, StopsWriting};
-ghost use Rattle.mg_run.specs.Sessions.{session_end};
+ghost use Rattle.std.specs.Prelude.{◌≡◌, true, false, ◌↔◌, Err, IfSome, MatchOption, Ok, Some};
+ghost use Rattle.mg_run.specs.Hosting.{log_volume};
+ghost use Rattle.mg_run.specs.Runs.{HasRun, Seen};
 ghost use Rattle.mg_run.specs.Words.{are_alone_words};
+ghost use Rattle.mg_serve.specs.Statuses.{fault_status};
 
-use crate::serving::serve_all;
-use crate::session::{Session, status_of};
-use crate::streams::{read_all, write_all};
+use crate::hosted::{host_settings, run_host};
+use crate::reading::read_lines;
 use crate::words::ask_for_alone;
+use mg_disk::Host;
 use mg_io::{Sink, Source};
-use mg_model::{Call, Fault, Why};
-use mg_script::{Line, put_end, read_script};
+use mg_model::Fault;
+use mg_serve::status_of;
 use std::alloc::Global;
 
 /// How a run ended.
@@ -26,30 +24,40 @@ pub struct Ran {
     pub fault: Option<Fault>,
 }
 
-/// Answers a script's calls in order, in one thread, over an empty partition: it reads the input to its end,
-/// answers each line by a line, and ends with the partition's end line.
+/// Answers a script's calls in order, in one thread, over the partitions of a host: it reads the host's settings, and the input to
+/// its end; recovers the shared log, and with it all partitions; answers each line by a line; syncs the log once, and writes the end
+/// lines.
 ///
-/// The words are a folder and `alone`; others are `BadWords`, before anything is read. `TooLong` comes once
-/// one byte more than a script may have was taken, `BadLine` where a line of the whole input is no call or, where
-/// all are calls, one is a sync, which the program cannot answer before it keeps a log; then nothing is written.
-/// `ReadFault` and `WriteFault` come only where the source or the sink failed; after a failed write no further call
-/// is made. Want of memory can come at any step.
-pub fn alone<S: Source, K: Sink>(alloc: Global, words: &[String], input: &mut S, out: &mut K) -> Ran
+/// The words are a folder and `alone`; others are `BadWords`, before anything is asked for. `BadSettings` names the first rule that
+/// the settings break. `TooLong` comes once one byte more than a script may have was taken, `BadLine` where a line of the whole input
+/// is no call. Then come the refusals of the log: `Damaged`, `Malformed`, `FewerParts`, `Gap` and `Worn`. Up to here nothing is
+/// written. `ReadFault` comes only where the host, the source or the log's volume failed, `WriteFault` only where the log's volume
+/// failed at the opening or in the last sync, or the sink. After a failed write no further call is made, and the log is synced all
+/// the same. Want of memory can come at any step.
+pub fn alone<H: Host, S: Source, K: Sink>(
+    alloc: Global,
+    words: &[String],
+    input: &mut S,
+    out: &mut K,
+    host: &mut H,
+) -> Ran
+    requires { (H.state host.old).out 65535 ≡ false }
     ensures words { (result.fault ≡ Some Fault.BadWords) ↔ (are_alone_words words.now ≡ false) }
-    ensures untouched { are_alone_words words.now ≡ false → (input.new ≡ input.old) × (out.new ≡ out.old) }
+    ensures untouched { are_alone_words words.now ≡ false → (input.new ≡ input.old) × (out.new ≡ out.old) × (host.new ≡ host.old) }
 
     // Where a fault is named it decides the status; else the answers do.
     ensures status { IfSome result.fault (λ fault. result.status ≡ fault_status fault) }
 
     // The run finished, or stopped for a fault with its cause.
-    ensures run { let before : Seen = record { left = S.left input.old; read_faults = S.faults input.old; written = K.written out.old; write_faults = K.faults out.old } in
-        let after : Seen = record { left = S.left input.new; read_faults = S.faults input.new; written = K.written out.new; write_faults = K.faults out.new } in
-        are_alone_words words.now ≡ true → MatchOption result.fault (Finishes 1 empty_opening before after result.status) (λ fault. Stops 1 empty_opening before after fault) }
+    ensures run { let before : Seen = record { left = S.left input.old; read_faults = S.faults input.old; written = K.written out.old; write_faults = K.faults out.old; host_faults = H.faults host.old } in
+        let after : Seen = record { left = S.left input.new; read_faults = S.faults input.new; written = K.written out.new; write_faults = K.faults out.new; host_faults = H.faults host.new } in
+        are_alone_words words.now ≡ true → MatchOption result.fault (HasRun H.Vol.tells H.Vol.view (H.state host.old) (H.state host.new) before after (Ok result.status))
+          (λ fault. HasRun H.Vol.tells H.Vol.view (H.state host.old) (H.state host.new) before after (Err fault)) }
 {
     if !ask_for_alone(words) {
         return refused(Fault::BadWords);
     }
-    match run(alloc, input, out) {
+    match run(alloc, input, out, host) {
         Ok(status) => Ran {
             status,
             fault: None,
@@ -69,61 +77,18 @@ pub fn refused(fault: Fault) -> Ran
 }
 
 /// A run over good words: its status, or why it stopped.
-fn run<S: Source, K: Sink>(alloc: Global, input: &mut S, out: &mut K) -> Result<u8, Fault>
-    ensures { let before : Seen = record { left = S.left input.old; read_faults = S.faults input.old; written = K.written out.old; write_faults = K.faults out.old } in
-        let after : Seen = record { left = S.left input.new; read_faults = S.faults input.new; written = K.written out.new; write_faults = K.faults out.new } in
-        MatchResult result (λ status. Finishes 1 empty_opening before after status) (λ fault. Stops 1 empty_opening before after fault) }
+fn run<H: Host, S: Source, K: Sink>(
+    alloc: Global,
+    input: &mut S,
+    out: &mut K,
+    host: &mut H,
+) -> Result<u8, Fault>
+    requires { (H.state host.old).out 65535 ≡ false }
+    ensures { let before : Seen = record { left = S.left input.old; read_faults = S.faults input.old; written = K.written out.old; write_faults = K.faults out.old; host_faults = H.faults host.old } in
+        let after : Seen = record { left = S.left input.new; read_faults = S.faults input.new; written = K.written out.new; write_faults = K.faults out.new; host_faults = H.faults host.new } in
+        HasRun H.Vol.tells H.Vol.view (H.state host.old) (H.state host.new) before after result }
 {
-    let bytes = match read_all(alloc, input) {
-        Ok(bytes) => bytes,
-        Err(fault) => return Err(fault),
-    };
-    let lines = match read_script(alloc, &bytes, 1) {
-        Ok(lines) => lines,
-        Err(fault) => return Err(fault),
-    };
-    if let Some(line) = first_sync(&lines) {
-        return Err(Fault::BadLine {
-            line,
-            why: Why::Verb,
-        });
-    }
-    let session = match serve_all(alloc, &lines, out) {
-        Ok(session) => session,
-        Err(fault) => return Err(fault),
-    };
-    match write_end(alloc, &session, out) {
-        Ok(()) => Ok(session.status),
-        Err(fault) => Err(fault),
-    }
-}
-
-/// The number, from 1, of the first line that is a sync.
-fn first_sync(lines: &[Line]) -> Option<u64>
-    ensures { MatchOption result (All NotSync lines.now) (IsFirstSync lines.now) }
-{
-    let index = lines
-        .iter()
-        .position(|line| matches!(line.call, Call::Sync))?;
-    Some(index as u64 + 1)
-}
-
-/// Writes the end line of the one partition.
-fn write_end<K: Sink>(alloc: Global, session: &Session, out: &mut K) -> Result<(), Fault>
-    ensures later { K.faults out.old ≤ K.faults out.new }
-    ensures good { OnOk result (K.faults out.new ≡ K.faults out.old) }
-    ensures wrote { MatchResult result (λ _. Appends (K.written out.old) (K.written out.new) (session_end session.now))
-        (λ fault. StopsWriting (K.written out.old) (K.written out.new) (K.faults out.old) (K.faults out.new) (session_end session.now) fault) }
-{
-    let mut text = Vec::new(alloc);
-    match put_end(
-        0,
-        session.places,
-        session.plain.length(),
-        session.plain.epoch(),
-        &mut text,
-    ) {
-        Ok(()) => write_all(out, &text),
-        Err(fault) => Err(fault),
-    }
+    let settings = host_settings(alloc, host)?;
+    let lines = read_lines(alloc, input, settings.partitions)?;
+    run_host(alloc, host, settings.partitions, lines, out)
 }

@@ -1,10 +1,9 @@
-//! The whole input, and whole pieces of output.
+//! The whole input.
 
-ghost use Rattle.std.specs.Prelude.{◌≡◌, ◌+◌, ◌-◌, ◌≤◌, ◌<◌, length, IfOk, MatchResult, OnOk};
-ghost use Rattle.std.specs.Io.KnownBytes.{Appends};
-ghost use Rattle.mg_run.specs.Runs.{FailsRead, ReadsAll, script_limit, StopsReading, StopsWriting, TakesPiece};
+ghost use Rattle.std.specs.Prelude.{◌≡◌, ◌+◌, ◌-◌, ◌≤◌, ◌<◌, length, MatchResult, OnOk};
+ghost use Rattle.mg_run.specs.Runs.{FailsRead, ReadsAll, script_limit, StopsReading, TakesPiece};
 
-use mg_io::{IoError, Sink, Source};
+use mg_io::{IoError, Source};
 use mg_model::Fault;
 use std::alloc::Global;
 
@@ -58,24 +57,4 @@ fn read_piece<S: Source>(
     };
     bytes.extend_from_slice(&piece[..count])?;
     Ok(count)
-}
-
-/// Writes all of some bytes, in as many calls as it takes. After an error a front of them was written.
-pub fn write_all<K: Sink>(out: &mut K, bytes: &[u8]) -> Result<(), Fault>
-    ensures later { K.faults out.old ≤ K.faults out.new }
-    ensures good { OnOk result (K.faults out.new ≡ K.faults out.old) }
-    ensures wrote { MatchResult result (λ _. Appends (K.written out.old) (K.written out.new) bytes.now)
-        (λ fault. StopsWriting (K.written out.old) (K.written out.new) (K.faults out.old) (K.faults out.new) bytes.now fault) }
-{
-    let mut rest = bytes;
-    while !rest.is_empty() {
-        let count = match out.write(rest) {
-            Ok(count) => count,
-            Err(IoError::NoMemory) => return Err(Fault::NoMemory),
-            Err(IoError::Failed) => return Err(Fault::WriteFault),
-        };
-        let (_, behind) = rest.split_at(count);
-        rest = behind;
-    }
-    Ok(())
 }
