@@ -6,5 +6,5 @@ pub mod MadeLaws
 pub mod OpenLaws
 pub mod PlaceLaws
 pub mod ReplayLaws
-mod CutLemmas
+pub mod CutLemmas
 mod OneCut
