@@ -70,7 +70,7 @@ may_give book part s (Forget mark) f k why = absurd k
 may_give book part s (Rollback to) f k why = absurd k
 may_give book part s Clear f k why = absurd k
 may_give book part s Sync f k why =
-    not_read Sync f refl (⊎_elim (λ e. subst (MayRefuse Sync) (sym e) refl) (λ more. ⊎_elim (λ e. subst (MayRefuse Sync) (sym e) refl) (λ spent. worn_is_refused Sync f book.newest spent.1) more) why)
+    not_read Sync f refl (⊎_elim (λ e. subst (MayRefuse Sync) (sym e) refl) (λ more. ⊎_elim (λ e. subst (MayRefuse Sync) (sym e) refl) (λ spent. worn_is_refused Sync f book.newest spent.1) more) why.1)
 may_give book part s (Compact through) f k why = absurd k
 may_give book part s Stats f k why = reads_may Stats f refl why
 

@@ -13,7 +13,7 @@ use Rattle.mg_model.specs.State.{worn, HasRoom, State}
 use Rattle.mg_recover.specs.declared.partition.Partition.{Partition}
 use Rattle.mg_recover.specs.Made.{opened_by, run_changes}
 use Rattle.mg_recover.specs.Stores.{AllSynced, Stands}
-use Rattle.mg_wal.specs.Book.{Book, IsWorn}
+use Rattle.mg_wal.specs.Book.{Book, HasUnsynced, IsWorn}
 use Rattle.mg_wal.specs.Lists.{Basis}
 use Rattle.mg_wal.specs.Stories.{Reaches}
 use Rattle.mg_wal.specs.Syncs.{IsSpent}
@@ -49,9 +49,9 @@ IsAtLimit s call f = (kept : ℕ) × (worn s call ≡ Some kept) × (f ≡ fault
 abbrev pub IsChangeFault : Book → ℕ → State → Call → Fault → Type 0
 IsChangeFault book part s call f = (f ≡ fault.NoMemory) ⊎ IsAtLimit s call f ⊎ (HasRoom s call × IsWorn book part f)
 
--- why a sync may fail: want of memory, a failed write, or no number for another log
+-- why a sync of what is unsynced may fail: want of memory, a failed write, or no number for another log
 abbrev pub IsSyncFault : Book → Fault → Type 0
-IsSyncFault book f = (f ≡ fault.NoMemory) ⊎ (f ≡ fault.WriteFault) ⊎ (IsSpent book × (f ≡ fault.Worn book.newest))
+IsSyncFault book f = HasUnsynced book × ((f ≡ fault.NoMemory) ⊎ (f ≡ fault.WriteFault) ⊎ (IsSpent book × (f ≡ fault.Worn book.newest)))
 
 -- the faults that a call may be answered, of a partition in this state
 abbrev pub IsCallFault : Book → ℕ → State → Call → Fault → Type 0
