@@ -42,9 +42,9 @@ spent_newest book spent = by_case (goes_on book) spent
     by_case false s = omega (arith, s)
 
 pub sync_fault : (basis : Basis) (book : Book) (f : Fault) → book.newest ≤ basis.newest + line_limit → IsSyncFault book f → MayFailSync basis f
-sync_fault basis book f few (inl memory) = inl memory
-sync_fault basis book f few (inr (inl write)) = inr (inl write)
-sync_fault basis book f few (inr (inr spent)) = inr (inr (book.newest, spent.1, spent_newest book spent.0, few))
+sync_fault basis book f few (unsynced, inl memory) = inl memory
+sync_fault basis book f few (unsynced, inr (inl write)) = inr (inl write)
+sync_fault basis book f few (unsynced, inr (inr spent)) = inr (inr (book.newest, spent.1, spent_newest book spent.0, few))
 
 pub may_answer : (basis : Basis) (placed : List Placed) (book : Book) (part : ℕ) (s : State) (call : Call) (f : Fault) → Books basis (run_changes basis placed) book → book.newest ≤ basis.newest + line_limit
     → IsCallFault book part s call f → MayAnswer basis placed part s call f
@@ -72,9 +72,9 @@ change_line book part s call f (inr (inr (room, inl w))) = rw w.1 tt
 change_line book part s call f (inr (inr (room, inr w))) = rw w.2 tt
 
 sync_line : (book : Book) (f : Fault) → IsSyncFault book f → IsLineFault f
-sync_line book f (inl m) = rw m tt
-sync_line book f (inr (inl w)) = rw w tt
-sync_line book f (inr (inr s)) = rw s.1 tt
+sync_line book f (unsynced, inl m) = rw m tt
+sync_line book f (unsynced, inr (inl w)) = rw w tt
+sync_line book f (unsynced, inr (inr s)) = rw s.1 tt
 
 -- a fault of a call can stand in a line
 pub call_line : (book : Book) (part : ℕ) (s : State) (call : Call) (f : Fault) → IsCallFault book part s call f → IsLineFault f
