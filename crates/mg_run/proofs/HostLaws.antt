@@ -1,5 +1,5 @@
 -- A run over the volume of the log, said of the host that lent it.
-use Rattle.std.proofs.Common.{◌≡◌, ◌≢◌, ◌≤◌, ◌⊎◌, inl, inr, ℕ, ◌-◌, List, length, Bool, Option, Some, Result, Ok, Err, refl, ap, subst, sym, ◌∙◌, arith}
+use Rattle.std.proofs.Common.{◌≡◌, ◌⊎◌, inl, inr, ℕ, ◌-◌, List, Bool, Option, Result, Ok, Err, ap, subst, sym, ◌∙◌}
 use Rattle.std.specs.Prelude.{IsTrue}
 use Rattle.mg_disk.specs.Hosts.{GivenBack, HasFound, HostState, Lent, SameButFor}
 use Rattle.mg_disk.specs.Images.{Image, View}
@@ -9,13 +9,13 @@ use Rattle.mg_recover.specs.Refusals.{IsStoreRefusal, IsStoreRefused}
 use Rattle.mg_script.specs.declared.script.Line.{Line}
 use Rattle.mg_serve.specs.Lasting.{KeepsLog, LeavesAllNow}
 use Rattle.mg_serve.specs.Placed.{placed_of}
-use Rattle.mg_serve.specs.Serving.{BreaksInEnds, BreaksInLine, Ends, EndsUnsynced, EndsWell, Ran}
+use Rattle.mg_serve.specs.Serving.{BreaksInEnds, BreaksInLine, Ends, EndsUnsynced, Ran}
 use Rattle.mg_types.specs.declared.faults.Fault.{Fault}
 use Rattle.mg_types.specs.declared.faults.Fault.TheVariants as fault
 use Rattle.mg_wal.specs.Lists.{Basis}
 use Rattle.mg_wal.specs.Openings.{IsFound}
 use Rattle.mg_wal_format.specs.Recovery.{IsLess}
-use Rattle.mg_run.specs.Hosting.{log_volume, GaveBack, IsInside, OpenedRan, RefusedOpening, VolumeRan, VolumeServed, WasInside}
+use Rattle.mg_run.specs.Hosting.{log_volume, IsInside, OpenedRan, RefusedOpening, VolumeRan, VolumeServed, WasInside}
 
 -- ---- what a run keeps, in other words
 

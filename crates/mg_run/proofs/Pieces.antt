@@ -1,5 +1,5 @@
 -- Reading piece by piece, and what a script that was read is.
-use Rattle.std.proofs.Common.{◌≡◌, ◌≤◌, ℕ, ◌+◌, ◌-◌, List, ◌++◌, length, Option, Result, Ok, Err, ap, subst, sym, ◌∙◌, arith}
+use Rattle.std.proofs.Common.{◌≡◌, ◌≤◌, ℕ, ◌+◌, ◌-◌, List, ◌++◌, length, Option, Result, Ok, Err, ap, arith}
 use Rattle.std.specs.Prelude.{IfErr, IfOk, MatchResult}
 use Rattle.std.specs.Result.{IsErrAnd}
 use Rattle.std.specs.Io.KnownBytes.{Consumes}

@@ -1,4 +1,4 @@
-use Rattle.std.proofs.Common.{◌≡◌, ◌∙◌, inl, inr, arith, refl, subst, sym}
+use Rattle.std.proofs.Common.{◌∙◌, inl, inr, arith, refl, sym}
 use Rattle.std.specs.Prelude.{IsTrue}
 use Rattle.mg_recover.specs.Refusals.{IsStoreRefused}
 use Rattle.mg_run.proofs.HostLaws.{ran_as, why_refused}
