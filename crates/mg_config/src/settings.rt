@@ -41,7 +41,7 @@ impl SettingRange {
     };
 }
 
-/// What a host sets for all of its partitions. No program reads them yet.
+/// What a host sets for all of its partitions. The program uses `partitions` alone so far.
 #[derive(Clone, Copy, Debug, PartialEq, Eq)]
 pub struct Settings {
     /// How many partitions there are, within [`SettingRange::PARTITIONS`].
