@@ -9,55 +9,53 @@ use Rattle.mg_recover.specs.Refusals.{IsStoreRefusal, IsStoreRefused}
 use Rattle.mg_script.specs.declared.script.Line.{Line}
 use Rattle.mg_serve.specs.Lasting.{KeepsLog, LeavesAllNow}
 use Rattle.mg_serve.specs.Placed.{placed_of}
-use Rattle.mg_serve.specs.Serving.{BreaksInEnds, BreaksInLine, Ends, EndsUnsynced, Ran}
+use Rattle.mg_serve.specs.Serving.{LastSync, Ran}
 use Rattle.mg_types.specs.declared.faults.Fault.{Fault}
 use Rattle.mg_types.specs.declared.faults.Fault.TheVariants as fault
 use Rattle.mg_wal.specs.Lists.{Basis}
-use Rattle.mg_wal.specs.Openings.{IsFound}
-use Rattle.mg_wal_format.specs.Recovery.{IsLess}
-use Rattle.mg_run.specs.Hosting.{log_volume, IsInside, OpenedRan, RefusedOpening, VolumeRan, VolumeServed, WasInside}
+use Rattle.mg_wal.specs.Strays.{OpensWithStray}
+use Rattle.mg_run.specs.Hosting.{log_volume, IsInside, LeavesLess, OpenedRan, OpensTo, RefusedOpening, VolumeRan, VolumeServed, WasInside}
 
 -- ---- what a run keeps, in other words
 
-ends_as : (parts : ℕ) (basis : Basis) (lines first : List Line) (answers : List Answer) (count count' : ℕ) (Lasts Lasts' : Type 0) (w w' : Option (List ℕ)) (k k' : ℕ) (ended : Result ℕ Fault) → (Lasts → Lasts')
-    → Ends parts basis lines first answers count count' Lasts w w' k k' ended → Ends parts basis lines first answers count count' Lasts' w w' k k' ended
-ends_as parts basis lines first answers count count' Lasts Lasts' w w' k k' (Ok status) to e = record { all = e.all; gravest = e.gravest; text = e.text; sink = e.sink; rises = e.rises; lasts = to e.lasts }
-ends_as parts basis lines first answers count count' Lasts Lasts' w w' k k' (Err f) to e = by_case e
-  where
-    by_case : BreaksInLine first answers count count' w w' k k' f ⊎ EndsUnsynced basis lines first answers count count' w w' k k' f ⊎ BreaksInEnds parts basis lines first answers count count' Lasts w w' k k' f
-        → BreaksInLine first answers count count' w w' k k' f ⊎ EndsUnsynced basis lines first answers count count' w w' k k' f ⊎ BreaksInEnds parts basis lines first answers count count' Lasts' w w' k k' f
-    by_case (inl line) = inl line
-    by_case (inr (inl unsynced)) = inr (inl unsynced)
-    by_case (inr (inr ends)) = inr (inr (record { all = ends.all; part = ends.part; within = ends.within; text = ends.text; rises = ends.rises; lasts = to ends.lasts }))
+-- what the last sync came to, in other words
+last_to : (basis : Basis) (Lasts Lasts' : Type 0) (synced : Result Unit Fault) → (Lasts → Lasts') → LastSync basis Lasts synced → LastSync basis Lasts' synced
+last_to basis Lasts Lasts' (Ok done) to last = to last
+last_to basis Lasts Lasts' (Err f) to last = last
 
-pub ran_as : (parts : ℕ) (basis : Basis) (lines : List Line) (count count' : ℕ) (Keeps Lasts Keeps' Lasts' : List Line → List Answer → Type 0) (w w' : Option (List ℕ)) (k k' : ℕ) (ended : Result ℕ Fault)
+pub ran_to : (parts : ℕ) (basis : Basis) (lines : List Line) (count count' : ℕ) (Keeps Lasts Keeps' Lasts' : List Line → List Answer → Type 0) (w w' : Option (List ℕ)) (k k' : ℕ) (synced : Result Unit Fault) (ended : Result ℕ Fault)
     → ((first : List Line) (answers : List Answer) → Keeps first answers → Keeps' first answers) → ((first : List Line) (answers : List Answer) → Lasts first answers → Lasts' first answers)
-    → Ran parts basis lines count count' Keeps Lasts w w' k k' ended → Ran parts basis lines count count' Keeps' Lasts' w w' k k' ended
-ran_as parts basis lines count count' Keeps Lasts Keeps' Lasts' w w' k k' ended keeps lasts r = record {
+    → Ran parts basis lines count count' Keeps Lasts w w' k k' synced ended → Ran parts basis lines count count' Keeps' Lasts' w w' k k' synced ended
+ran_to parts basis lines count count' Keeps Lasts Keeps' Lasts' w w' k k' synced ended keeps lasts r = record {
   first = r.first;
   behind = r.behind;
   answers = r.answers;
   split = r.split;
   fit = r.fit;
   log = keeps r.first r.answers r.log;
-  ends = ends_as parts basis lines r.first r.answers count count' (Lasts r.first r.answers) (Lasts' r.first r.answers) w w' k k' ended (lasts r.first r.answers) r.ends;
+  last = last_to basis (Lasts r.first r.answers) (Lasts' r.first r.answers) synced (lasts r.first r.answers) r.last;
+  rises = r.rises;
+  ends = r.ends;
 }
 
 -- why an opening stopped
-pub why_refused : (parts count count' : ℕ) (IsBad : Fault → Type 0) (f : Fault) → (f ≡ fault.NoMemory) ⊎ (f ≡ fault.ReadFault) ⊎ (f ≡ fault.WriteFault) ⊎ IsStoreRefusal parts f
-    → ((f ≡ fault.ReadFault) ⊎ (f ≡ fault.WriteFault) → Rose count count') → (IsStoreRefusal parts f → IsBad f)
-    → (f ≡ fault.NoMemory) ⊎ (((f ≡ fault.ReadFault) ⊎ (f ≡ fault.WriteFault)) × Rose count count') ⊎ (IsStoreRefusal parts f × IsBad f)
-why_refused parts count count' IsBad f (inl memory) rose bad = inl memory
-why_refused parts count count' IsBad f (inr (inl read)) rose bad = inr (inl (inl read, rose (inl read)))
-why_refused parts count count' IsBad f (inr (inr (inl write))) rose bad = inr (inl (inr write, rose (inr write)))
-why_refused parts count count' IsBad f (inr (inr (inr refusal))) rose bad = inr (inr (refusal, bad refusal))
+abbrev pub Why : Type 0 → (Fault → Type 0) → ℕ → ℕ → ℕ → Fault → Type 0
+Why HasStray IsBad parts count count' f =
+    (f ≡ fault.NoMemory) ⊎ ((f ≡ fault.ReadFault) × Rose count count') ⊎ ((f ≡ fault.WriteFault) × Rose count count' × HasStray) ⊎ (IsStoreRefusal parts f × IsBad f)
 
-refused_as : (parts : ℕ) (IsBad IsBad' : Fault → Type 0) (count count' : ℕ) (f : Fault) → ((f : Fault) → IsBad f → IsBad' f)
-    → (f ≡ fault.NoMemory) ⊎ (((f ≡ fault.ReadFault) ⊎ (f ≡ fault.WriteFault)) × Rose count count') ⊎ (IsStoreRefusal parts f × IsBad f)
-    → (f ≡ fault.NoMemory) ⊎ (((f ≡ fault.ReadFault) ⊎ (f ≡ fault.WriteFault)) × Rose count count') ⊎ (IsStoreRefusal parts f × IsBad' f)
-refused_as parts IsBad IsBad' count count' f to (inl memory) = inl memory
-refused_as parts IsBad IsBad' count count' f to (inr (inl failed)) = inr (inl failed)
-refused_as parts IsBad IsBad' count count' f to (inr (inr refusal)) = inr (inr (refusal.0, to f refusal.1))
+pub why_refused : (parts count count' : ℕ) (HasStray : Type 0) (IsBad : Fault → Type 0) (f : Fault) → (f ≡ fault.NoMemory) ⊎ (f ≡ fault.ReadFault) ⊎ (f ≡ fault.WriteFault) ⊎ IsStoreRefusal parts f
+    → ((f ≡ fault.ReadFault) ⊎ (f ≡ fault.WriteFault) → Rose count count') → (f ≡ fault.WriteFault → HasStray) → (IsStoreRefusal parts f → IsBad f) → Why HasStray IsBad parts count count' f
+why_refused parts count count' HasStray IsBad f (inl memory) rose stray bad = inl memory
+why_refused parts count count' HasStray IsBad f (inr (inl read)) rose stray bad = inr (inl (read, rose (inl read)))
+why_refused parts count count' HasStray IsBad f (inr (inr (inl write))) rose stray bad = inr (inr (inl (write, rose (inr write), stray write)))
+why_refused parts count count' HasStray IsBad f (inr (inr (inr refusal))) rose stray bad = inr (inr (inr (refusal, bad refusal)))
+
+refused_to : (parts : ℕ) (HasStray HasStray' : Type 0) (IsBad IsBad' : Fault → Type 0) (count count' : ℕ) (f : Fault) → (HasStray → HasStray') → ((f : Fault) → IsBad f → IsBad' f)
+    → Why HasStray IsBad parts count count' f → Why HasStray' IsBad' parts count count' f
+refused_to parts HasStray HasStray' IsBad IsBad' count count' f stray to (inl memory) = inl memory
+refused_to parts HasStray HasStray' IsBad IsBad' count count' f stray to (inr (inl read)) = inr (inl read)
+refused_to parts HasStray HasStray' IsBad IsBad' count count' f stray to (inr (inr (inl write))) = inr (inr (inl (write.0, write.1, stray write.2)))
+refused_to parts HasStray HasStray' IsBad IsBad' count count' f stray to (inr (inr (inr refusal))) = inr (inr (inr (refusal.0, to f refusal.1)))
 
 -- ---- lent and given back
 
@@ -103,22 +101,23 @@ host_served tells view old mid new vol vol' count count' faults between faults' 
     keeps basis first answers k t = is (λ it. KeepsLog basis first answers (new.lent_moment log_volume) it) t (subst (λ time. KeepsLog basis first answers time (view vol')) lent_at (k t))
 
     by_case : VolumeRan tells (view vol) (view vol') count count' parts lines w w' k k' ended
-        → OpenedRan (λ basis. IsTrue tells → WasInside view old (λ image. IsFound image basis))
+        → OpenedRan (λ basis. IsTrue tells → WasInside view old (OpensTo parts basis))
         (λ basis first answers. IsTrue tells → IsInside view new (λ it. KeepsLog basis first answers (new.lent_moment log_volume) it))
         (λ basis first answers. IsTrue tells → IsInside view new (λ it. LeavesAllNow basis (placed_of first answers) it))
         parts (new.lent_faults log_volume) count' lines w w' k k' ended
         ⊎ ((f : Fault) × (ended ≡ Err f)
-        × RefusedOpening (λ f. IsTrue tells → WasInside view old (λ image. IsStoreRefused parts image f)) parts (new.lent_faults log_volume) count' w w' k k' f
-        × (IsTrue tells → WasInside view old (λ found. IsInside view new (λ it. (image : Image) → it.left_since (new.lent_moment log_volume) image → IsLess found image))))
+        × RefusedOpening (IsTrue tells → WasInside view old (OpensWithStray parts)) (λ f. IsTrue tells → WasInside view old (λ image. IsStoreRefused parts image f)) parts (new.lent_faults log_volume) count' w w' k k' f
+        × (IsTrue tells → WasInside view old (λ found. IsInside view new (LeavesLess (new.lent_moment log_volume) found))))
     by_case (inl opened) =
         let basis = opened.basis in
         inl (record {
           basis = basis;
           parts_are = opened.parts_are;
-          found = λ t. was (λ image. IsFound image basis) t (opened.found t);
+          found = λ t. was (OpensTo parts basis) t (opened.found t);
+          synced = opened.synced;
           ran = subst (λ n. Ran parts basis lines n count' (λ first answers. IsTrue tells → IsInside view new (λ it. KeepsLog basis first answers (new.lent_moment log_volume) it))
-              (λ first answers. IsTrue tells → IsInside view new (λ it. LeavesAllNow basis (placed_of first answers) it)) w w' k k' ended) lent_count
-              (ran_as parts basis lines count count' _ _ _ _ w w' k k' ended (keeps basis) (λ first answers l t. is (λ it. LeavesAllNow basis (placed_of first answers) it) t (l t)) opened.ran);
+              (λ first answers. IsTrue tells → IsInside view new (λ it. LeavesAllNow basis (placed_of first answers) it)) w w' k k' opened.synced ended) lent_count
+              (ran_to parts basis lines count count' _ _ _ _ w w' k k' opened.synced ended (keeps basis) (λ first answers l t. is (λ it. LeavesAllNow basis (placed_of first answers) it) t (l t)) opened.ran);
         })
     by_case (inr refused) =
         let f = refused.0 in
@@ -126,16 +125,16 @@ host_served tells view old mid new vol vol' count count' faults between faults' 
         inr (
           f,
           refused.1,
-          subst (λ n. RefusedOpening (λ f. IsTrue tells → WasInside view old (λ image. IsStoreRefused parts image f)) parts n count' w w' k k' f) lent_count (record {
+          subst (λ n. RefusedOpening (IsTrue tells → WasInside view old (OpensWithStray parts)) (λ f. IsTrue tells → WasInside view old (λ image. IsStoreRefused parts image f)) parts n count' w w' k k' f) lent_count (record {
             later = r.later;
             once = r.once;
             text = r.text;
             sink = r.sink;
-            why = refused_as parts (λ f. IsTrue tells → IsStoreRefused parts (view vol).contents f) (λ f. IsTrue tells → WasInside view old (λ image. IsStoreRefused parts image f)) count count' f
-                (λ f bad t. was (λ image. IsStoreRefused parts image f) t (bad t)) r.why;
+            why = refused_to parts (IsTrue tells → OpensWithStray parts (view vol).contents) (IsTrue tells → WasInside view old (OpensWithStray parts)) (λ f. IsTrue tells → IsStoreRefused parts (view vol).contents f)
+                (λ f. IsTrue tells → WasInside view old (λ image. IsStoreRefused parts image f)) count count' f (λ stray t. was (OpensWithStray parts) t (stray t)) (λ f bad t. was (λ image. IsStoreRefused parts image f) t (bad t)) r.why;
           }),
           λ t.
-              was (λ found. IsInside view new (λ it. (image : Image) → it.left_since (new.lent_moment log_volume) image → IsLess found image)) t
-              (is (λ it. (image : Image) → it.left_since (new.lent_moment log_volume) image → IsLess (view vol).contents image) t
-              (subst (λ time. (image : Image) → (view vol').left_since time image → IsLess (view vol).contents image) lent_at (refused.3 t))),
+              was (λ found. IsInside view new (LeavesLess (new.lent_moment log_volume) found)) t
+              (is (LeavesLess (new.lent_moment log_volume) (view vol).contents) t
+              (subst (λ time. LeavesLess time (view vol).contents (view vol')) lent_at ((refused.3 t).later, (refused.3 t).each))),
         )

@@ -7,14 +7,15 @@ use Rattle.std.proofs.KnownBytes.{Consumes-kept, Consumes-trans}
 use Rattle.std.proofs.lemmas.List.{length-append}
 use Rattle.mg_script.specs.declared.script.Line.{Line}
 use Rattle.mg_script.specs.Script.{script_of, Refuses}
-use Rattle.mg_serve.proofs.Pieces.{rose_since}
+use Rattle.mg_serve.proofs.Pieces.{may_since, rose_since}
 use Rattle.mg_types.specs.declared.faults.Fault.{Fault}
 use Rattle.mg_types.specs.declared.faults.Fault.TheVariants as fault
 use Rattle.mg_run.specs.Runs.{script_limit, FailsRead, ReadsAll, ReadsScript, StopsInput, StopsReading}
 
 -- a read that fails stops the reading
 pub stops_reading : (left mid left' : Option (List ℕ)) (bytes : List ℕ) (first before now : ℕ) (f : Fault) → Consumes left mid bytes → length bytes ≤ script_limit → before ≡ first → FailsRead mid left' (script_limit + 1 - length bytes) before now f → StopsReading left left' first now f
-stops_reading left mid left' bytes first before now fault.NoMemory t few l r = record { bytes = bytes ++ r.bytes; taken = Consumes-trans left mid left' bytes r.bytes t r.taken; in_limit = omega (arith, few, r.in_limit, length-append bytes r.bytes) }
+stops_reading left mid left' bytes first before now fault.NoMemory t few l r =
+    (may_since first before now l r.0, record { bytes = bytes ++ r.1.bytes; taken = Consumes-trans left mid left' bytes r.1.bytes t r.1.taken; in_limit = omega (arith, few, r.1.in_limit, length-append bytes r.1.bytes) })
 stops_reading left mid left' bytes first before now fault.ReadFault t few l r = (rose_since first before now l r.0, record { bytes = bytes; taken = Consumes-kept left mid left' bytes t r.1; in_limit = few })
 stops_reading left mid left' bytes first before now (fault.Damaged file at kept found) t few l r = r
 stops_reading left mid left' bytes first before now (fault.Missing file) t few l r = r
@@ -46,7 +47,7 @@ stops_input parts left left' faults faults' (fault.Worn kept) s = s
 
 -- a whole input that is refused as a script
 refuses_input : (parts : ℕ) (left left' : Option (List ℕ)) (faults faults' : ℕ) (bytes : List ℕ) (f : Fault) → ReadsAll left left' bytes → faults' ≡ faults → Refuses f (script_of parts bytes) → StopsInput parts left left' faults faults' f
-refuses_input parts left left' faults faults' bytes fault.NoMemory r k s = record { bytes = bytes; taken = r.taken; in_limit = omega (arith, r.in_limit) }
+refuses_input parts left left' faults faults' bytes fault.NoMemory r k s = ((omega (arith, k), omega (arith, k)), record { bytes = bytes; taken = r.taken; in_limit = omega (arith, r.in_limit) })
 refuses_input parts left left' faults faults' bytes (fault.BadLine line why) r k s = (record { bytes = bytes; read = r; script = s }, k)
 refuses_input parts left left' faults faults' bytes fault.ReadFault r k s = absurd s
 refuses_input parts left left' faults faults' bytes fault.WriteFault r k s = s

@@ -6,8 +6,11 @@ use Rattle.mg_disk.specs.declared.errors.DiskError.{DiskError}
 use Rattle.mg_disk.specs.declared.errors.DiskError.TheVariants as disk
 use Rattle.mg_disk.specs.Hosts.{HostState, SameButFor}
 use Rattle.mg_disk.specs.Images.{Image, View}
+use Rattle.mg_disk.specs.Moments.{LeavesOnly}
 use Rattle.mg_faults.specs.Causes.{raised, Rose}
 use Rattle.mg_model.specs.declared.replies.Answer.{Answer}
+use Rattle.mg_recover.specs.Cuts.{IsOpened}
+use Rattle.mg_recover.specs.Made.{opened_by}
 use Rattle.mg_recover.specs.Refusals.{IsStoreRefusal, IsStoreRefused}
 use Rattle.mg_script.specs.declared.script.Line.{Line}
 use Rattle.mg_serve.specs.Lasting.{KeepsLog, LeavesAllNow}
@@ -17,6 +20,7 @@ use Rattle.mg_types.specs.declared.faults.Fault.{Fault}
 use Rattle.mg_types.specs.declared.faults.Fault.TheVariants as fault
 use Rattle.mg_wal.specs.Lists.{Basis}
 use Rattle.mg_wal.specs.Openings.{IsFound}
+use Rattle.mg_wal.specs.Strays.{OpensWithStray}
 use Rattle.mg_wal_format.specs.Recovery.{IsLess}
 
 -- the number of the shared log's volume
@@ -46,15 +50,22 @@ pub record FailsSettings (tells : Bool) (document : Option (List ℕ)) (faults f
 
 -- ---- the volume of the shared log
 
--- Nothing was written, and the opening of the log stopped: for want of memory, for a volume that failed, or for what stands in the log.
-pub record RefusedOpening (IsBad : Fault → Type 0) (parts count count' : ℕ) (written written' : Option (List ℕ)) (sinks sinks' : ℕ) (f : Fault) : Type 0 where
+-- Nothing was written, and the opening of the log stopped: for want of memory, for a volume that failed to read, or to remove a log
+-- without a whole head, or for what stands in the log.
+pub record RefusedOpening (HasStray : Type 0) (IsBad : Fault → Type 0) (parts count count' : ℕ) (written written' : Option (List ℕ)) (sinks sinks' : ℕ) (f : Fault) : Type 0 where
   pub later : count ≤ count'
   pub once : count' ≤ raised count 1
   pub text : written' ≡ written
   pub sink : sinks' ≡ sinks
   pub why : (f ≡ fault.NoMemory)
-      ⊎ (((f ≡ fault.ReadFault) ⊎ (f ≡ fault.WriteFault)) × Rose count count')
+      ⊎ ((f ≡ fault.ReadFault) × Rose count count')
+      ⊎ ((f ≡ fault.WriteFault) × Rose count count' × HasStray)
       ⊎ (IsStoreRefusal parts f × IsBad f)
+
+-- The image opens to what was found, with no change missing and each one allowed.
+pub record OpensTo (parts : ℕ) (basis : Basis) (image : Image) : Type 0 where
+  pub found : IsFound image basis
+  pub opened : IsOpened parts image (opened_by basis)
 
 -- The log was opened to what was found, and the calls of the lines were made.
 pub record OpenedRan (IsThere : Basis → Type 0) (Keeps Lasts : Basis → List Line → List Answer → Type 0) (parts count count' : ℕ) (lines : List Line)
@@ -62,15 +73,16 @@ pub record OpenedRan (IsThere : Basis → Type 0) (Keeps Lasts : Basis → List 
   pub basis : Basis
   pub parts_are : length basis.low ≡ parts
   pub found : IsThere basis
-  pub ran : Ran parts basis lines count count' (Keeps basis) (Lasts basis) written written' sinks sinks' ended
+  pub synced : Result Unit Fault
+  pub ran : Ran parts basis lines count count' (Keeps basis) (Lasts basis) written written' sinks sinks' synced ended
 
 -- what became of a volume on which a run of calls was asked for
 abbrev pub VolumeRan : Bool → View → View → ℕ → ℕ → ℕ → List Line → Option (List ℕ) → Option (List ℕ) → ℕ → ℕ → Result ℕ Fault → Type 0
 VolumeRan tells old new count count' parts lines written written' sinks sinks' ended =
-    OpenedRan (λ basis. IsTrue tells → IsFound old.contents basis) (λ basis first answers. IsTrue tells → KeepsLog basis first answers old.moment new)
+    OpenedRan (λ basis. IsTrue tells → OpensTo parts basis old.contents) (λ basis first answers. IsTrue tells → KeepsLog basis first answers old.moment new)
     (λ basis first answers. IsTrue tells → LeavesAllNow basis (placed_of first answers) new) parts count count' lines written written' sinks sinks' ended
-    ⊎ ((f : Fault) × (ended ≡ Err f) × RefusedOpening (λ f. IsTrue tells → IsStoreRefused parts old.contents f) parts count count' written written' sinks sinks' f
-    × (IsTrue tells → (image : Image) → new.left_since old.moment image → IsLess old.contents image))
+    ⊎ ((f : Fault) × (ended ≡ Err f) × RefusedOpening (IsTrue tells → OpensWithStray parts old.contents) (λ f. IsTrue tells → IsStoreRefused parts old.contents f) parts count count' written written' sinks sinks' f
+    × (IsTrue tells → LeavesOnly old new (IsLess old.contents)))
 
 -- ---- the host
 
@@ -85,6 +97,10 @@ pub record IsInside {V : Type 0} (view : V → View) (new : HostState V) (Says :
   pub vol : V
   pub inside : new.inside log_volume ≡ Some vol
   pub says : Says (view vol)
+
+-- each image that a crash might have left since a moment, which is no later one than now, has of this one all but logs without a whole head
+abbrev pub LeavesLess : ℕ → Image → View → Type 0
+LeavesLess time found view = (time ≤ view.moment) × ((image : Image) → view.left_since time image → IsLess found image)
 
 -- The log's volume was lent and given back: it is in again, all else is as it was, and the host's count rose by what the volume's rose.
 pub record GaveBack {V : Type 0} (old new : HostState V) (faults faults' count' : ℕ) : Type 0 where
@@ -105,13 +121,13 @@ pub record VolumeServed {V : Type 0} (tells : Bool) (view : V → View) (old new
   pub count : ℕ
   pub back : GaveBack old new faults faults' count
   pub ran :
-      OpenedRan (λ basis. IsTrue tells → WasInside view old (λ image. IsFound image basis))
+      OpenedRan (λ basis. IsTrue tells → WasInside view old (OpensTo parts basis))
       (λ basis first answers. IsTrue tells → IsInside view new (λ it. KeepsLog basis first answers (new.lent_moment log_volume) it))
       (λ basis first answers. IsTrue tells → IsInside view new (λ it. LeavesAllNow basis (placed_of first answers) it))
       parts (new.lent_faults log_volume) count lines written written' sinks sinks' ended
       ⊎ ((f : Fault) × (ended ≡ Err f)
-      × RefusedOpening (λ f. IsTrue tells → WasInside view old (λ image. IsStoreRefused parts image f)) parts (new.lent_faults log_volume) count written written' sinks sinks' f
-      × (IsTrue tells → WasInside view old (λ found. IsInside view new (λ it. (image : Image) → it.left_since (new.lent_moment log_volume) image → IsLess found image))))
+      × RefusedOpening (IsTrue tells → WasInside view old (OpensWithStray parts)) (λ f. IsTrue tells → WasInside view old (λ image. IsStoreRefused parts image f)) parts (new.lent_faults log_volume) count written written' sinks sinks' f
+      × (IsTrue tells → WasInside view old (λ found. IsInside view new (LeavesLess (new.lent_moment log_volume) found))))
 
 -- what became of a host over which a run of calls was asked for
 abbrev pub HostRan : {V : Type 0} → Bool → (V → View) → HostState V → HostState V → ℕ → ℕ → ℕ → List Line → Option (List ℕ) → Option (List ℕ) → ℕ → ℕ → Result ℕ Fault → Type 0

@@ -11,6 +11,7 @@ use Rattle.mg_types.specs.declared.faults.Why.{Why}
 use Rattle.mg_script.specs.declared.script.Line.{Line}
 use Rattle.mg_script.specs.Script.{script_of}
 use Rattle.mg_script.specs.Transcript.{fault_message}
+use Rattle.mg_serve.specs.Writing.{MayRise}
 use Rattle.mg_run.specs.Hosting.{FailsSettings, HasSettings, HostRan}
 
 -- the most bytes of a script
@@ -59,7 +60,7 @@ pub record TakesSome (left left' : Option (List ℕ)) (most : ℕ) : Type 0 wher
 
 -- why reading stopped before the end of the input
 abbrev pub StopsReading : Option (List ℕ) → Option (List ℕ) → ℕ → ℕ → Fault → Type 0
-StopsReading left left' faults faults' fault.NoMemory = TakesSome left left' (script_limit + 1)
+StopsReading left left' faults faults' fault.NoMemory = MayRise faults faults' × TakesSome left left' (script_limit + 1)
 StopsReading left left' faults faults' fault.ReadFault = RoseOnce faults faults' × TakesSome left left' script_limit
 StopsReading left left' faults faults' (fault.TooLong limit) = IsTooLong left left' limit × (faults' ≡ faults)
 StopsReading left left' faults faults' other = ⊥
@@ -71,7 +72,7 @@ StopsInput parts left left' faults faults' other = StopsReading left left' fault
 
 -- why one read gave nothing, with so many bytes that it could take; of the input nothing was taken where it failed
 abbrev pub FailsRead : Option (List ℕ) → Option (List ℕ) → ℕ → ℕ → ℕ → Fault → Type 0
-FailsRead left left' room faults faults' fault.NoMemory = TakesSome left left' room
+FailsRead left left' room faults faults' fault.NoMemory = MayRise faults faults' × TakesSome left left' room
 FailsRead left left' room faults faults' fault.ReadFault = RoseOnce faults faults' × Keeps left left'
 FailsRead left left' room faults faults' other = ⊥
 

@@ -3,7 +3,7 @@
 ghost use Rattle.std.specs.Prelude.{◌≡◌, false, IfOk};
 ghost use Rattle.mg_memdisk.specs.Hosts.{mem_state};
 
-use crate::fixtures::{Outcome, new_host, run_on};
+use crate::fixtures::{Outcome, new_host, run_failing, run_on};
 use mg_memdisk::{MemHost, MemVolume};
 use mg_model::Fault;
 use std::alloc::Global;
@@ -186,5 +186,23 @@ fn a_crash_in_the_last_sync_leaves_all_that_was_synced(rt: HostRuntime) -> Resul
         };
         assert_eq!(rt; outcome.text.as_slice(), text.as_bytes(), "{cut}");
     }
+    Ok(())
+}
+
+#[test]
+fn after_a_failed_write_the_log_is_synced_all_the_same(rt: HostRuntime) -> Result<(), Fail> {
+    let alloc = rt.alloc();
+    let mut host = host_with(alloc, "")?;
+    let script = Vec::from_slice(alloc, b"0 set 0 a x\n0 set 0 b y\n")?;
+    let failing = vec![in alloc; 1u64]?;
+    let broken = run_failing(alloc, &mut host, script, Vec::new(alloc), failing)?;
+    assert_eq!(rt; broken.ran.fault, Some(Fault::WriteFault));
+    assert!(rt; broken.text.is_empty());
+    let mut left = host_of(alloc, "", crashed(alloc, &host, b"")?)?;
+    let outcome = run_on(alloc, &mut left, "0 feed 0 0 0 9\n")?;
+    assert_eq!(rt;
+        outcome.text.as_slice(),
+        b"0 1 0 @1 feed 0 1 [1 set a x]\nend 0 1 1 0\n".as_slice()
+    );
     Ok(())
 }

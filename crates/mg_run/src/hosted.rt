@@ -75,7 +75,7 @@ pub(crate) fn run_host<H: Host, K: Sink>(
         (K.written out.old) (K.written out.new) (K.faults out.old) (K.faults out.new) result }
 {
     let vol = lend_log(alloc, host)?;
-    let Served { vol, ended } = run_volume(alloc, vol, parts, lines, out);
+    let (vol, ended) = run_volume(alloc, vol, parts, lines, out);
     host.give_back(LOG_VOLUME, vol);
     ended
 }
@@ -87,19 +87,23 @@ fn run_volume<V: Volume, K: Sink>(
     parts: u16,
     lines: Vec<Line>,
     out: &mut K,
-) -> Served<V>
+) -> (V, Result<u8, Fault>)
     requires settled { IsTrue V.tells → Settled (V.view vol) (V.in_writing vol) }
     requires some { 1 ≤ parts }
     requires form { All (IsLine parts) lines.items }
     requires few { length lines.items ≤ line_limit }
-    ensures { VolumeRan V.tells (V.view vol) (V.view result.vol) (V.faults vol) (V.faults result.vol) parts lines.items
-        (K.written out.old) (K.written out.new) (K.faults out.old) (K.faults out.new) result.ended }
+    ensures { VolumeRan V.tells (V.view vol) (V.view result.0) (V.faults vol) (V.faults result.0) parts lines.items
+        (K.written out.old) (K.written out.new) (K.faults out.old) (K.faults out.new) result.1 }
 {
     match open(alloc, vol, parts) {
-        Ok(store) => serve(alloc, store, parts, lines, out),
-        Err(RecoverError { fault, vol }) => Served {
-            vol,
-            ended: Err(fault),
-        },
+        Ok(store) => {
+            let Served {
+                vol,
+                synced: _,
+                ended,
+            } = serve(alloc, store, parts, lines, out);
+            (vol, ended)
+        }
+        Err(RecoverError { fault, vol }) => (vol, Err(fault)),
     }
 }

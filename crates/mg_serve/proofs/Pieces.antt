@@ -1,5 +1,5 @@
 -- Writing piece by piece, as loops do.
-use Rattle.std.proofs.Common.{◌≡◌, ℕ, List, [], ◌∷◌, ◌++◌, take, drop, Option, Result, Ok, Err, refl, ap, subst, sym, ◌∙◌}
+use Rattle.std.proofs.Common.{◌≡◌, ℕ, List, [], ◌∷◌, ◌++◌, take, drop, Option, Result, Ok, Err, refl, ap, subst, sym, ◌∙◌, arith}
 use Rattle.std.specs.Prelude.{MatchResult}
 use Rattle.std.specs.Result.{IsErrAnd}
 use Rattle.std.specs.Io.KnownBytes.{Appends}
@@ -10,11 +10,15 @@ use Rattle.mg_faults.specs.Causes.{RoseOnce}
 use Rattle.mg_types.specs.declared.faults.Fault.{Fault}
 use Rattle.mg_types.specs.declared.faults.Fault.TheVariants as fault
 use Rattle.mg_serve.specs.Told.{joined}
-use Rattle.mg_serve.specs.Writing.{StopsInLast, StopsWriting, WritesFront, WritesSome}
+use Rattle.mg_serve.specs.Writing.{MayRise, StopsInLast, StopsWriting, WritesFront, WritesSome}
 
 -- a count that rose by one after it had stayed rose by one in all
 pub rose_since : (first before now : ℕ) → before ≡ first → RoseOnce before now → RoseOnce first now
 rose_since first before now same rose = cc
+
+-- a count that may have risen after it had stayed may have risen in all
+pub may_since : (first before now : ℕ) → before ≡ first → MayRise before now → MayRise first now
+may_since first before now same may = (omega (arith, same, may.0), omega (arith, same, may.1))
 
 -- one piece more was written
 pub split_on : (bytes front rest behind : List ℕ) (n : ℕ) → bytes ≡ front ++ rest → behind ≡ drop n rest → bytes ≡ (front ++ take n rest) ++ behind
@@ -36,7 +40,7 @@ some_behind earlier last w w' w'' least before f = record {
 -- writing stopped in a text behind others that were written
 pub stops_behind : (earlier : List (List ℕ)) (last : List ℕ) (w w' w'' : Option (List ℕ)) (first before now : ℕ) (f : Fault) → Appends w w' (joined earlier) → before ≡ first
     → StopsWriting w' w'' before now last f → StopsInLast w w'' first now (earlier ++ last ∷ []) f
-stops_behind earlier last w w' w'' first before now fault.NoMemory t same s = some_behind earlier last w w' w'' 0 t s
+stops_behind earlier last w w' w'' first before now fault.NoMemory t same s = (may_since first before now same s.0, some_behind earlier last w w' w'' 0 t s.1)
 stops_behind earlier last w w' w'' first before now fault.WriteFault t same s = (rose_since first before now same s.0, some_behind earlier last w w' w'' 1 t s.1)
 stops_behind earlier last w w' w'' first before now fault.ReadFault t same s = s
 stops_behind earlier last w w' w'' first before now (fault.Damaged file at kept found) t same s = s
@@ -68,7 +72,7 @@ some_after before texts w w' w'' least t s = record {
 
 -- writing stopped in the last of some texts behind others that were written
 pub stops_after : (before texts : List (List ℕ)) (w w' w'' : Option (List ℕ)) (first mid now : ℕ) (f : Fault) → Appends w w' (joined before) → mid ≡ first → StopsInLast w' w'' mid now texts f → StopsInLast w w'' first now (before ++ texts) f
-stops_after before texts w w' w'' first mid now fault.NoMemory t same s = some_after before texts w w' w'' 0 t s
+stops_after before texts w w' w'' first mid now fault.NoMemory t same s = (may_since first mid now same s.0, some_after before texts w w' w'' 0 t s.1)
 stops_after before texts w w' w'' first mid now fault.WriteFault t same s = (rose_since first mid now same s.0, some_after before texts w w' w'' 1 t s.1)
 stops_after before texts w w' w'' first mid now fault.ReadFault t same s = s
 stops_after before texts w w' w'' first mid now (fault.Damaged file at kept found) t same s = s

@@ -5,8 +5,7 @@ use Rattle.mg_model.specs.declared.replies.Answer.{Answer}
 use Rattle.mg_model.specs.declared.replies.Reply.{Reply}
 use Rattle.mg_types.specs.declared.faults.Fault.{Fault}
 use Rattle.mg_types.specs.declared.faults.Fault.TheVariants as fault
-use Rattle.mg_serve.specs.Lasting.{failed_writes, faults_in, is_fault, is_write_fault, RisesBy}
-use Rattle.mg_serve.specs.Serving.{write_count}
+use Rattle.mg_serve.specs.Lasting.{failed_writes, faults_in, faults_of, is_fault, is_write_fault, write_count, writes_of, RisesBy}
 use Rattle.mg_serve.proofs.Counts.{count-push}
 
 -- a failed write counts one, another fault none
@@ -78,3 +77,11 @@ rises_next answers answer before mid now so_far cause once = record {
 
     it : RisesBy (failed_writes answers + cond (is_write_fault answer.result) 1 0) (faults_in answers + cond (is_fault answer.result) 1 0) before now
     it = by_result answer.result cause once
+
+-- the count over a sync more
+pub rises_sync : (synced : Result Unit Fault) (before mid now least most : ℕ) → RisesBy least most before mid → HasCause fault.WriteFault mid now synced → CountsOnce mid now synced
+    → RisesBy (least + writes_of synced) (most + faults_of synced) before now
+rises_sync (Ok done) before mid now least most so_far cause once =
+    let kept = rises_ok done before mid now least most so_far once in
+    record { enough = omega (arith, kept.enough); few = omega (arith, kept.few) }
+rises_sync (Err f) before mid now least most so_far cause once = rises_err f before mid now least most so_far cause once

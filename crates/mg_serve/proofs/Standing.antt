@@ -62,6 +62,7 @@ fits_next basis lines answers line answer old new was now spoken stands few answ
   fits = answered.next.fits;
   last = answered.next.last;
   whole = by_reply answer.result;
+  room = answered.room;
   fault = by_fault answer.result answered.fault;
 }
   where

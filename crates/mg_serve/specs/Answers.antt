@@ -1,5 +1,5 @@
 -- Which answers fit the calls of a script, where one thread makes them in order over one log.
-use Rattle.std.specs.Prelude.{◌≡◌, ◌<◌, ◌≤◌, ◌⊎◌, ℕ, ◌+◌, ◌-◌, ◌^◌, List, [], ◌∷◌, ◌++◌, ⊤, Ok, IfErr, IfOk, IfSome}
+use Rattle.std.specs.Prelude.{◌≡◌, ◌<◌, ◌≤◌, ◌⊎◌, ℕ, ◌+◌, ◌-◌, ◌^◌, List, [], ◌∷◌, ◌++◌, ⊤, Ok, IfErr, IfOk, IfSome, OnOk}
 use Rattle.mg_model.specs.declared.calls.Call.{Call}
 use Rattle.mg_model.specs.declared.calls.Call.TheVariants.{Set, Del, Sync, Compact}
 use Rattle.mg_model.specs.declared.replies.Answer.{Answer}
@@ -57,11 +57,13 @@ abbrev pub EndsAtLength : State → Call → Type 0
 EndsAtLength s (Compact through) = through ≡ length_of s
 EndsAtLength s other = ⊤
 
--- The next answer fits its partition's history with this call as the last; a compaction reaches to the end, and a fault has its cause.
+-- The next answer fits its partition's history with this call as the last; a compaction reaches to the end, a call that passes a limit
+-- of its partition's numbers is no Ok, and a fault has its cause.
 pub record FitsNext (basis : Basis) (before : List Placed) (line : Line) (answer : Answer) : Type 0 where
   pub fits : Fits (opened_by basis line.part) (history_in (before ++ placed_by line answer) line.part) line.call answer
   pub last : IfSome answer.place (λ place. place ≡ calls_in before line.part + 1)
   pub whole : IfOk answer.result (λ reply. EndsAtLength (state_in (opened_by basis) before line.part) (entered line.call (Ok reply)))
+  pub room : OnOk answer.result (HasRoom (state_in (opened_by basis) before line.part) line.call)
   pub fault : IfErr answer.result (MayAnswer basis before line.part (state_in (opened_by basis) before line.part) line.call)
 
 -- the answers to some lines, one to each, fit one after the other

@@ -39,6 +39,20 @@ failed_writes answers = count_by (λ answer. is_write_fault answer.result) answe
 abbrev pub faults_in : List Answer → ℕ
 faults_in answers = count_by (λ answer. is_fault answer.result) answers
 
+-- 1 for a failed write
+abbrev pub write_count : Fault → ℕ
+write_count fault.WriteFault = 1
+write_count other = 0
+
+-- how many failed writes a sync was, and how many faults
+abbrev pub writes_of : Result Unit Fault → ℕ
+writes_of (Ok done) = 0
+writes_of (Err f) = write_count f
+
+abbrev pub faults_of : Result Unit Fault → ℕ
+faults_of (Ok done) = 0
+faults_of (Err f) = 1
+
 -- a count has risen by so much at least and by so much at most, but for its last number
 pub record RisesBy (least most before now : ℕ) : Type 0 where
   pub enough : raised before least ≤ now
@@ -53,17 +67,18 @@ pub record Holds (basis : Basis) (lines : List Line) (answers : List Answer) (op
   pub synced : (number : ℕ) → IsSyncedAt basis [] lines answers number
       → (time : ℕ) × (reach : ℕ) × (number ≤ reach - 1) × (basis.reached ≤ reach) × Reaches basis (run_changes basis (placed_of lines answers)) time reach book view
 
--- each image that a crash might have left since a moment opens to one cut of all partitions that has every change below a number, unless a
--- frame of the image is whole by chance
+-- Each image that a crash might have left since a moment, which is no later one than now, opens to one cut of all partitions that has
+-- every change below a number, unless a frame of the image is whole by chance.
 abbrev pub LeavesCuts : Basis → List Placed → (time reach : ℕ) → View → Type 0
-LeavesCuts basis placed time reach view = (image : Image) → view.left_since time image → ByNoChance image view.written → LeavesCut basis placed reach image
+LeavesCuts basis placed time reach view = (time ≤ view.moment) × ((image : Image) → view.left_since time image → ByNoChance image view.written → LeavesCut basis placed reach image)
 
 -- What a crash leaves of the log, now or at a moment since the opening: one cut of all partitions that has all that the opening
--- found. From a moment on at which a line was answered that all is synced, the cut has every change before that.
+-- found. For each line that was answered that all is synced there is a moment, at the latest now, since which the cut has every
+-- change before that.
 pub record KeepsLog (basis : Basis) (lines : List Line) (answers : List Answer) (opening : ℕ) (view : View) : Type 0 where
   pub found : LeavesCuts basis (placed_of lines answers) opening basis.reached view
   pub synced : (number : ℕ) → IsSyncedAt basis [] lines answers number
-      → (time : ℕ) × (time ≤ view.moment) × LeavesCuts basis (placed_of lines answers) time (number + 1) view
+      → (time : ℕ) × LeavesCuts basis (placed_of lines answers) time (number + 1) view
 
 -- each image that a crash now may leave opens to the states to which all calls led, unless a frame of the image is whole by chance
 abbrev pub LeavesAllNow : Basis → List Placed → View → Type 0

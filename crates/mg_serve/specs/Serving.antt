@@ -7,8 +7,7 @@ use Rattle.mg_model.specs.declared.replies.Answer.{Answer}
 use Rattle.mg_model.specs.State.{length_of}
 use Rattle.mg_recover.specs.declared.partition.Partition.{Partition}
 use Rattle.mg_recover.specs.Made.{opened_by}
-use Rattle.mg_recover.specs.Answers.{IsSyncFault}
-use Rattle.mg_recover.specs.Stores.{part_at, AllSynced}
+use Rattle.mg_recover.specs.Stores.{part_at}
 use Rattle.mg_script.specs.declared.script.Line.{Line}
 use Rattle.mg_script.specs.Transcript.{end_line}
 use Rattle.mg_types.specs.declared.faults.Fault.{Fault}
@@ -17,7 +16,7 @@ use Rattle.mg_wal.specs.Book.{Book}
 use Rattle.mg_wal.specs.Lists.{Basis}
 use Rattle.mg_wal.specs.Stories.{Reaches}
 use Rattle.mg_serve.specs.Answers.{AllFit, MayFailSync}
-use Rattle.mg_serve.specs.Lasting.{failed_writes, faults_in, Holds, KeepsLog, LeavesAllNow, RisesBy}
+use Rattle.mg_serve.specs.Lasting.{failed_writes, faults_in, faults_of, writes_of, Holds, KeepsLog, LeavesAllNow, RisesBy}
 use Rattle.mg_serve.specs.Placed.{placed_of}
 use Rattle.mg_serve.specs.Sessions.{Standing, StandsAt}
 use Rattle.mg_serve.specs.Statuses.{answers_status}
@@ -80,75 +79,71 @@ pub record BrokeInEnds (partitions : List Partition) (parts : ℕ) (written writ
 
 -- ---- the whole run
 
--- 1 for a failed write
-abbrev pub write_count : Fault → ℕ
-write_count fault.WriteFault = 1
-write_count other = 0
+-- How a run of this status ended, by what its calls and its last sync came to. Where they stopped, or the sync failed, that fault is told
+-- and nothing was written. Else the end lines were written, or one of them broke off.
+abbrev pub IsEnd : List Partition → ℕ → ℕ → Option (List ℕ) → Option (List ℕ) → ℕ → ℕ → Result Unit Fault → Result Unit Fault → Result ℕ Fault → Type 0
+IsEnd partitions parts status written written' faults faults' (Err f) synced result = (result ≡ Err f) × (written' ≡ written) × (faults' ≡ faults)
+IsEnd partitions parts status written written' faults faults' (Ok served) (Err f) result = (result ≡ Err f) × (written' ≡ written) × (faults' ≡ faults)
+IsEnd partitions parts status written written' faults faults' (Ok served) (Ok synced) (Ok ended) =
+    (ended ≡ status) × Appends written written' (joined (partition_ends partitions parts)) × (faults' ≡ faults)
+IsEnd partitions parts status written written' faults faults' (Ok served) (Ok synced) (Err f) = BrokeInEnds partitions parts written written' faults faults' f
 
--- How a run of this status ended, by what its calls came to. Where they stopped, one sync was tried and nothing was written. Else the
--- sync was answered and the end lines were written, or the sync failed and none was, or one of them broke off.
-abbrev pub IsEnd : List Partition → ℕ → ℕ → Book → Book → ℕ → ℕ → Option (List ℕ) → Option (List ℕ) → ℕ → ℕ → Result Unit Fault → Result ℕ Fault → Type 0
-IsEnd partitions parts status old new count count' written written' faults faults' (Err f) result =
-    (result ≡ Err f) × (written' ≡ written) × (faults' ≡ faults) × RisesBy 0 1 count count'
-IsEnd partitions parts status old new count count' written written' faults faults' (Ok done) (Ok ended) =
-    (ended ≡ status) × AllSynced new × Appends written written' (joined (partition_ends partitions parts)) × (faults' ≡ faults) × (count' ≡ count)
-IsEnd partitions parts status old new count count' written written' faults faults' (Ok done) (Err f) =
-    (IsSyncFault old f × (written' ≡ written) × (faults' ≡ faults) × RisesBy (write_count f) 1 count count')
-    ⊎ (AllSynced new × BrokeInEnds partitions parts written written' faults faults' f × (count' ≡ count))
+-- what the last sync came to: where it is answered, the log keeps all, and else its fault has a cause
+abbrev pub LastSync : Basis → Type 0 → Result Unit Fault → Type 0
+LastSync basis Lasts (Ok done) = Lasts
+LastSync basis Lasts (Err f) = MayFailSync basis f
 
 -- The run came to its end: all lines were answered and written, the last sync too and the end lines.
-pub record EndsWell (parts : ℕ) (basis : Basis) (lines first : List Line) (answers : List Answer) (count count' : ℕ) (Lasts : Type 0)
+pub record EndsWell (parts : ℕ) (basis : Basis) (lines first : List Line) (answers : List Answer) (synced : Result Unit Fault)
     (written written' : Option (List ℕ)) (faults faults' : ℕ) (status : ℕ) : Type 0 where
   pub all : first ≡ lines
   pub gravest : status ≡ answers_status answers
+  pub sync : synced ≡ Ok tt
   pub text : Appends written written' (joined (texts (opened_by basis) (placed_of first answers) (numbered [] first answers) parts))
   pub sink : faults' ≡ faults
-  pub rises : RisesBy (failed_writes answers) (faults_in answers) count count'
-  pub lasts : Lasts
 
--- The run broke off in the line of the last answer. One sync was tried then.
-pub record BreaksInLine (first : List Line) (answers : List Answer) (count count' : ℕ) (written written' : Option (List ℕ)) (faults faults' : ℕ) (f : Fault) : Type 0 where
+-- The run broke off in the line of the last answer.
+pub record BreaksInLine (first : List Line) (answers : List Answer) (written written' : Option (List ℕ)) (faults faults' : ℕ) (f : Fault) : Type 0 where
   pub text : StopsInLast written written' faults faults' (call_texts first answers) f
-  pub rises : RisesBy (failed_writes answers) (faults_in answers + 1) count count'
 
 -- All lines were answered and written, the last sync failed, and no end line was written.
-pub record EndsUnsynced (basis : Basis) (lines first : List Line) (answers : List Answer) (count count' : ℕ) (written written' : Option (List ℕ)) (faults faults' : ℕ) (f : Fault) : Type 0 where
+pub record EndsUnsynced (lines first : List Line) (answers : List Answer) (synced : Result Unit Fault) (written written' : Option (List ℕ)) (faults faults' : ℕ) (f : Fault) : Type 0 where
   pub all : first ≡ lines
+  pub sync : synced ≡ Err f
   pub text : Appends written written' (joined (call_texts first answers))
   pub sink : faults' ≡ faults
-  pub why : MayFailSync basis f
-  pub rises : RisesBy (failed_writes answers + write_count f) (faults_in answers + 1) count count'
 
 -- All lines were answered and written, the last sync too, and the run broke off in the end line of a partition.
-pub record BreaksInEnds (parts : ℕ) (basis : Basis) (lines first : List Line) (answers : List Answer) (count count' : ℕ) (Lasts : Type 0)
+pub record BreaksInEnds (parts : ℕ) (basis : Basis) (lines first : List Line) (answers : List Answer) (synced : Result Unit Fault)
     (written written' : Option (List ℕ)) (faults faults' : ℕ) (f : Fault) : Type 0 where
   pub all : first ≡ lines
+  pub sync : synced ≡ Ok tt
   pub part : ℕ
   pub within : part < parts
   pub text : StopsInLast written written' faults faults' (texts (opened_by basis) (placed_of first answers) (numbered [] first answers) (suc part)) f
-  pub rises : RisesBy (failed_writes answers) (faults_in answers) count count'
-  pub lasts : Lasts
 
 -- how a run ended, by its status or by the fault for which it broke off
-abbrev pub Ends : ℕ → Basis → List Line → List Line → List Answer → ℕ → ℕ → Type 0 → Option (List ℕ) → Option (List ℕ) → ℕ → ℕ → Result ℕ Fault → Type 0
-Ends parts basis lines first answers count count' Lasts written written' faults faults' (Ok status) =
-    EndsWell parts basis lines first answers count count' Lasts written written' faults faults' status
-Ends parts basis lines first answers count count' Lasts written written' faults faults' (Err f) =
-    BreaksInLine first answers count count' written written' faults faults' f
-    ⊎ EndsUnsynced basis lines first answers count count' written written' faults faults' f
-    ⊎ BreaksInEnds parts basis lines first answers count count' Lasts written written' faults faults' f
+abbrev pub Ends : ℕ → Basis → List Line → List Line → List Answer → Result Unit Fault → Option (List ℕ) → Option (List ℕ) → ℕ → ℕ → Result ℕ Fault → Type 0
+Ends parts basis lines first answers synced written written' faults faults' (Ok status) = EndsWell parts basis lines first answers synced written written' faults faults' status
+Ends parts basis lines first answers synced written written' faults faults' (Err f) =
+    BreaksInLine first answers written written' faults faults' f
+    ⊎ EndsUnsynced lines first answers synced written written' faults faults' f
+    ⊎ BreaksInEnds parts basis lines first answers synced written written' faults faults' f
 
--- The calls of a script were made, in order, up to the end or to where writing stopped: the answers fit, what was written is theirs, the
--- log keeps what it promises, and the run ended for this reason.
+-- The calls of a script were made, in order, up to the end or to where writing stopped: the answers fit, the log keeps what it promises,
+-- one sync more was made, the count of the log's volume rose as the answers and that sync say, what was written is theirs, and the run
+-- ended for this reason.
 pub record Ran (parts : ℕ) (basis : Basis) (lines : List Line) (count count' : ℕ) (Keeps Lasts : List Line → List Answer → Type 0)
-    (written written' : Option (List ℕ)) (faults faults' : ℕ) (ended : Result ℕ Fault) : Type 0 where
+    (written written' : Option (List ℕ)) (faults faults' : ℕ) (synced : Result Unit Fault) (ended : Result ℕ Fault) : Type 0 where
   pub first : List Line
   pub behind : List Line
   pub answers : List Answer
   pub split : lines ≡ first ++ behind
   pub fit : AllFit basis [] first answers
   pub log : Keeps first answers
-  pub ends : Ends parts basis lines first answers count count' (Lasts first answers) written written' faults faults' ended
+  pub last : LastSync basis (Lasts first answers) synced
+  pub rises : RisesBy (failed_writes answers + writes_of synced) (faults_in answers + faults_of synced) count count'
+  pub ends : Ends parts basis lines first answers synced written written' faults faults' ended
 
 -- what the log keeps, where it reached what the opening found
 abbrev pub KeepsFrom : Bool → Basis → ℕ → Book → View → View → List Line → List Answer → Type 0

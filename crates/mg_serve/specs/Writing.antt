@@ -1,5 +1,5 @@
 -- What was written of some bytes.
-use Rattle.std.specs.Prelude.{◌≡◌, ◌≤◌, ℕ, List, [], ◌∷◌, ◌++◌, length, Option, Result, Ok, Err}
+use Rattle.std.specs.Prelude.{◌≡◌, ◌≤◌, ℕ, ◌+◌, List, [], ◌∷◌, ◌++◌, length, Option, Result, Ok, Err}
 use Rattle.std.specs.Io.KnownBytes.{Appends}
 use Rattle.mg_faults.specs.Causes.{RoseOnce}
 use Rattle.mg_types.specs.declared.faults.Fault.{Fault}
@@ -14,9 +14,13 @@ pub record WritesFront (written written' : Option (List ℕ)) (bytes : List ℕ)
   pub left : least ≤ length rest
   pub text : Appends written written' front
 
+-- a count stays, or rises by one
+abbrev pub MayRise : ℕ → ℕ → Type 0
+MayRise faults faults' = (faults ≤ faults') × (faults' ≤ faults + 1)
+
 -- why writing some bytes stopped, and what was written of them
 abbrev pub StopsWriting : Option (List ℕ) → Option (List ℕ) → ℕ → ℕ → List ℕ → Fault → Type 0
-StopsWriting written written' faults faults' bytes fault.NoMemory = WritesFront written written' bytes 0
+StopsWriting written written' faults faults' bytes fault.NoMemory = MayRise faults faults' × WritesFront written written' bytes 0
 StopsWriting written written' faults faults' bytes fault.WriteFault = RoseOnce faults faults' × WritesFront written written' bytes 1
 StopsWriting written written' faults faults' bytes other = ⊥
 
@@ -38,6 +42,6 @@ pub record WritesSome (written written' : Option (List ℕ)) (texts : List (List
 
 -- why writing stopped in the last of some texts, and what was written of them
 abbrev pub StopsInLast : Option (List ℕ) → Option (List ℕ) → ℕ → ℕ → List (List ℕ) → Fault → Type 0
-StopsInLast written written' faults faults' texts fault.NoMemory = WritesSome written written' texts 0
+StopsInLast written written' faults faults' texts fault.NoMemory = MayRise faults faults' × WritesSome written written' texts 0
 StopsInLast written written' faults faults' texts fault.WriteFault = RoseOnce faults faults' × WritesSome written written' texts 1
 StopsInLast written written' faults faults' texts other = ⊥

@@ -1,9 +1,7 @@
 //! A run of calls: all lines of a script, the last sync, and the end lines.
 
-ghost use Rattle.std.specs.Prelude.{◌≡◌, ◌≤◌, ℕ, List, [], length, IsTrue, MatchResult};
+ghost use Rattle.std.specs.Prelude.{◌≡◌, ◌≤◌, ℕ, [], length, MatchResult};
 ghost use Rattle.std.specs.List.{All};
-ghost use Rattle.mg_model.specs.Placed.{Placed};
-ghost use Rattle.mg_recover.specs.Answers.{CarriesReach};
 ghost use Rattle.mg_recover.specs.Stores.{log_book, log_volume, partitions_of, Stands};
 ghost use Rattle.mg_script.specs.Script.{IsLine};
 ghost use Rattle.mg_serve.specs.Answers.{line_limit};
@@ -21,10 +19,14 @@ use mg_recover::Store;
 use mg_script::Line;
 use std::alloc::Global;
 
-/// What a run of calls leaves: the volume of the log, and the gravest status of the answers, or why the run broke off.
+/// What a run of calls leaves.
 #[derive(Debug, Drop)]
 pub struct Served<V: Volume> {
+    /// The volume of the log.
     pub vol: V,
+    /// What the last sync was answered.
+    pub synced: Result<(), Fault>,
+    /// The gravest status of the answers, or why the run broke off.
     pub ended: Result<u8, Fault>,
 }
 
@@ -49,7 +51,7 @@ pub fn serve<V: Volume, K: Sink>(
         → Ran parts basis lines.items (V.faults (log_volume store)) (V.faults result.vol)
         (KeepsFrom V.tells basis opening (log_book store) (V.view (log_volume store)) (V.view result.vol))
         (LastsFrom V.tells basis opening (log_book store) (V.view (log_volume store)) (V.view result.vol))
-        (K.written out.old) (K.written out.new) (K.faults out.old) (K.faults out.new) result.ended }
+        (K.written out.old) (K.written out.new) (K.faults out.old) (K.faults out.new) result.synced result.ended }
 {
     let mut session = Session::new(store);
     let served = serve_all(alloc, &mut session, lines, out);
@@ -58,35 +60,32 @@ pub fn serve<V: Volume, K: Sink>(
         status,
         counts: _,
     } = session;
-    let ended = end(alloc, &mut store, parts, status, served, out);
+    let synced = store.finish(alloc);
+    let ended = end(alloc, &store, parts, status, served, &synced, out);
     Served {
         vol: store.into_volume(),
+        synced,
         ended,
     }
 }
 
-/// Syncs the log once; where all calls were served and the sync is answered, writes the end lines and answers the status.
+/// Where all calls were served and the last sync was answered, writes the end lines and answers the status.
 fn end<V: Volume, K: Sink>(
     alloc: Global,
-    store: &mut Store<V>,
+    store: &Store<V>,
     parts: u16,
     status: u8,
     served: Result<(), Fault>,
+    synced: &Result<(), Fault>,
     out: &mut K,
 ) -> Result<u8, Fault>
-    requires parts { parts_in (log_book store.old) ≡ parts }
-    requires some { 1 ≤ parts }
-    ensures stands { (basis : Basis) (placed : List Placed) → Stands basis placed (log_book store.old) (partitions_of store.old)
-        → Stands basis placed (log_book store.new) (partitions_of store.new) }
-    ensures reaches { IsTrue V.tells → (basis : Basis) (placed : List Placed) → Stands basis placed (log_book store.old) (partitions_of store.old)
-        → CarriesReach basis placed placed (log_book store.old) (log_book store.new) (V.view (log_volume store.old)) (V.view (log_volume store.new)) }
-    ensures counted { parts_in (log_book store.new) ≡ parts_in (log_book store.old) }
-    ensures ended { IsEnd (partitions_of store.new) parts status (log_book store.old) (log_book store.new) (V.faults (log_volume store.old)) (V.faults (log_volume store.new))
-        (K.written out.old) (K.written out.new) (K.faults out.old) (K.faults out.new) served result }
+    requires { parts_in (log_book store.now) ≡ parts }
+    ensures { IsEnd (partitions_of store.now) parts status (K.written out.old) (K.written out.new) (K.faults out.old) (K.faults out.new) served synced.now result }
 {
-    let synced = store.finish(alloc);
     served?;
-    synced?;
+    if let Err(fault) = synced {
+        return Err(*fault);
+    }
     write_ends(alloc, store, parts, out)?;
     Ok(status)
 }
