@@ -1,9 +1,11 @@
 //! The program `magma`: it answers the script on standard input by a transcript on standard output.
 //!
-//! Everything that matters stands in `mg_run`; here the real streams are made.
+//! Everything that matters stands in `mg_run`; here the real streams are made, and an empty host in memory, whose store lasts as
+//! long as the run.
 #![tactic(auto)]
 
 use mg_io::{StdSink, StdSource};
+use mg_memdisk::MemHost;
 use mg_model::Fault;
 use mg_run::{Ending, alone, end_program, refused};
 use std::alloc::AllocError;
@@ -15,7 +17,14 @@ fn main(rt: HostRuntime) -> ExitCode {
         Ok(words) => {
             let mut input = StdSource::new(rt.stdin());
             let mut out = StdSink::new(rt.stdout());
-            alone(rt.alloc(), words.as_slice(), &mut input, &mut out)
+            let mut host = MemHost::new(rt.alloc(), None);
+            alone(
+                rt.alloc(),
+                words.as_slice(),
+                &mut input,
+                &mut out,
+                &mut host,
+            )
         }
         Err(_) => refused(Fault::NoMemory),
     };

@@ -104,22 +104,22 @@ host_served tells view old mid new vol vol' count count' faults between faults' 
 
     by_case : VolumeRan tells (view vol) (view vol') count count' parts lines w w' k k' ended
         → OpenedRan (λ basis. IsTrue tells → WasInside view old (λ image. IsFound image basis))
-          (λ basis first answers. IsTrue tells → IsInside view new (λ it. KeepsLog basis first answers (new.lent_moment log_volume) it))
-          (λ basis first answers. IsTrue tells → IsInside view new (λ it. LeavesAllNow basis (placed_of first answers) it))
-          parts (new.lent_faults log_volume) count' lines w w' k k' ended
-          ⊎ ((f : Fault) × (ended ≡ Err f)
-            × RefusedOpening (λ f. IsTrue tells → WasInside view old (λ image. IsStoreRefused parts image f)) parts (new.lent_faults log_volume) count' w w' k k' f
-            × (IsTrue tells → WasInside view old (λ found. IsInside view new (λ it. (image : Image) → it.left_since (new.lent_moment log_volume) image → IsLess found image))))
+        (λ basis first answers. IsTrue tells → IsInside view new (λ it. KeepsLog basis first answers (new.lent_moment log_volume) it))
+        (λ basis first answers. IsTrue tells → IsInside view new (λ it. LeavesAllNow basis (placed_of first answers) it))
+        parts (new.lent_faults log_volume) count' lines w w' k k' ended
+        ⊎ ((f : Fault) × (ended ≡ Err f)
+        × RefusedOpening (λ f. IsTrue tells → WasInside view old (λ image. IsStoreRefused parts image f)) parts (new.lent_faults log_volume) count' w w' k k' f
+        × (IsTrue tells → WasInside view old (λ found. IsInside view new (λ it. (image : Image) → it.left_since (new.lent_moment log_volume) image → IsLess found image))))
     by_case (inl opened) =
         let basis = opened.basis in
         inl (record {
-              basis = basis;
-              parts_are = opened.parts_are;
-              found = λ t. was (λ image. IsFound image basis) t (opened.found t);
-              ran = subst (λ n. Ran parts basis lines n count' (λ first answers. IsTrue tells → IsInside view new (λ it. KeepsLog basis first answers (new.lent_moment log_volume) it))
-                  (λ first answers. IsTrue tells → IsInside view new (λ it. LeavesAllNow basis (placed_of first answers) it)) w w' k k' ended) lent_count
-                  (ran_as parts basis lines count count' _ _ _ _ w w' k k' ended (keeps basis) (λ first answers l t. is (λ it. LeavesAllNow basis (placed_of first answers) it) t (l t)) opened.ran);
-            })
+          basis = basis;
+          parts_are = opened.parts_are;
+          found = λ t. was (λ image. IsFound image basis) t (opened.found t);
+          ran = subst (λ n. Ran parts basis lines n count' (λ first answers. IsTrue tells → IsInside view new (λ it. KeepsLog basis first answers (new.lent_moment log_volume) it))
+              (λ first answers. IsTrue tells → IsInside view new (λ it. LeavesAllNow basis (placed_of first answers) it)) w w' k k' ended) lent_count
+              (ran_as parts basis lines count count' _ _ _ _ w w' k k' ended (keeps basis) (λ first answers l t. is (λ it. LeavesAllNow basis (placed_of first answers) it) t (l t)) opened.ran);
+        })
     by_case (inr refused) =
         let f = refused.0 in
         let r = refused.2 in
@@ -127,13 +127,13 @@ host_served tells view old mid new vol vol' count count' faults between faults' 
           f,
           refused.1,
           subst (λ n. RefusedOpening (λ f. IsTrue tells → WasInside view old (λ image. IsStoreRefused parts image f)) parts n count' w w' k k' f) lent_count (record {
-                later = r.later;
-                once = r.once;
-                text = r.text;
-                sink = r.sink;
-                why = refused_as parts (λ f. IsTrue tells → IsStoreRefused parts (view vol).contents f) (λ f. IsTrue tells → WasInside view old (λ image. IsStoreRefused parts image f)) count count' f
-                    (λ f bad t. was (λ image. IsStoreRefused parts image f) t (bad t)) r.why;
-              }),
+            later = r.later;
+            once = r.once;
+            text = r.text;
+            sink = r.sink;
+            why = refused_as parts (λ f. IsTrue tells → IsStoreRefused parts (view vol).contents f) (λ f. IsTrue tells → WasInside view old (λ image. IsStoreRefused parts image f)) count count' f
+                (λ f bad t. was (λ image. IsStoreRefused parts image f) t (bad t)) r.why;
+          }),
           λ t.
               was (λ found. IsInside view new (λ it. (image : Image) → it.left_since (new.lent_moment log_volume) image → IsLess found image)) t
               (is (λ it. (image : Image) → it.left_since (new.lent_moment log_volume) image → IsLess (view vol).contents image) t

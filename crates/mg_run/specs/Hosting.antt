@@ -68,9 +68,9 @@ pub record OpenedRan (IsThere : Basis → Type 0) (Keeps Lasts : Basis → List 
 abbrev pub VolumeRan : Bool → View → View → ℕ → ℕ → ℕ → List Line → Option (List ℕ) → Option (List ℕ) → ℕ → ℕ → Result ℕ Fault → Type 0
 VolumeRan tells old new count count' parts lines written written' sinks sinks' ended =
     OpenedRan (λ basis. IsTrue tells → IsFound old.contents basis) (λ basis first answers. IsTrue tells → KeepsLog basis first answers old.moment new)
-      (λ basis first answers. IsTrue tells → LeavesAllNow basis (placed_of first answers) new) parts count count' lines written written' sinks sinks' ended
+    (λ basis first answers. IsTrue tells → LeavesAllNow basis (placed_of first answers) new) parts count count' lines written written' sinks sinks' ended
     ⊎ ((f : Fault) × (ended ≡ Err f) × RefusedOpening (λ f. IsTrue tells → IsStoreRefused parts old.contents f) parts count count' written written' sinks sinks' f
-      × (IsTrue tells → (image : Image) → new.left_since old.moment image → IsLess old.contents image))
+    × (IsTrue tells → (image : Image) → new.left_since old.moment image → IsLess old.contents image))
 
 -- ---- the host
 
@@ -106,12 +106,12 @@ pub record VolumeServed {V : Type 0} (tells : Bool) (view : V → View) (old new
   pub back : GaveBack old new faults faults' count
   pub ran :
       OpenedRan (λ basis. IsTrue tells → WasInside view old (λ image. IsFound image basis))
-        (λ basis first answers. IsTrue tells → IsInside view new (λ it. KeepsLog basis first answers (new.lent_moment log_volume) it))
-        (λ basis first answers. IsTrue tells → IsInside view new (λ it. LeavesAllNow basis (placed_of first answers) it))
-        parts (new.lent_faults log_volume) count lines written written' sinks sinks' ended
+      (λ basis first answers. IsTrue tells → IsInside view new (λ it. KeepsLog basis first answers (new.lent_moment log_volume) it))
+      (λ basis first answers. IsTrue tells → IsInside view new (λ it. LeavesAllNow basis (placed_of first answers) it))
+      parts (new.lent_faults log_volume) count lines written written' sinks sinks' ended
       ⊎ ((f : Fault) × (ended ≡ Err f)
-        × RefusedOpening (λ f. IsTrue tells → WasInside view old (λ image. IsStoreRefused parts image f)) parts (new.lent_faults log_volume) count written written' sinks sinks' f
-        × (IsTrue tells → WasInside view old (λ found. IsInside view new (λ it. (image : Image) → it.left_since (new.lent_moment log_volume) image → IsLess found image))))
+      × RefusedOpening (λ f. IsTrue tells → WasInside view old (λ image. IsStoreRefused parts image f)) parts (new.lent_faults log_volume) count written written' sinks sinks' f
+      × (IsTrue tells → WasInside view old (λ found. IsInside view new (λ it. (image : Image) → it.left_since (new.lent_moment log_volume) image → IsLess found image))))
 
 -- what became of a host over which a run of calls was asked for
 abbrev pub HostRan : {V : Type 0} → Bool → (V → View) → HostState V → HostState V → ℕ → ℕ → ℕ → List Line → Option (List ℕ) → Option (List ℕ) → ℕ → ℕ → Result ℕ Fault → Type 0

@@ -70,7 +70,8 @@ pub(crate) fn run_host<H: Host, K: Sink>(
     requires some { 1 ≤ parts }
     requires form { All (IsLine parts) lines.items }
     requires few { length lines.items ≤ line_limit }
-    ensures { HostRan H.Vol.tells H.Vol.view (H.state host.old) (H.state host.new) (H.faults host.old) (H.faults host.new) parts lines.items
+    ensures back { (H.state host.new).out 65535 ≡ false }
+    ensures ran { HostRan H.Vol.tells H.Vol.view (H.state host.old) (H.state host.new) (H.faults host.old) (H.faults host.new) parts lines.items
         (K.written out.old) (K.written out.new) (K.faults out.old) (K.faults out.new) result }
 {
     let vol = lend_log(alloc, host)?;

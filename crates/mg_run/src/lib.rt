@@ -11,5 +11,9 @@ mod words;
 pub use endings::{Ending, end_program};
 pub use single::{Ran, alone, refused};
 
-
-
+#[cfg(test)]
+mod fixtures;
+#[cfg(test)]
+mod host_tests;
+#[cfg(test)]
+mod tests;

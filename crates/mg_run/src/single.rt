@@ -45,6 +45,9 @@ pub fn alone<H: Host, S: Source, K: Sink>(
     ensures words { (result.fault ≡ Some Fault.BadWords) ↔ (are_alone_words words.now ≡ false) }
     ensures untouched { are_alone_words words.now ≡ false → (input.new ≡ input.old) × (out.new ≡ out.old) × (host.new ≡ host.old) }
 
+    // The log's volume is in again.
+    ensures back { (H.state host.new).out 65535 ≡ false }
+
     // Where a fault is named it decides the status; else the answers do.
     ensures status { IfSome result.fault (λ fault. result.status ≡ fault_status fault) }
 
@@ -52,7 +55,7 @@ pub fn alone<H: Host, S: Source, K: Sink>(
     ensures run { let before : Seen = record { left = S.left input.old; read_faults = S.faults input.old; written = K.written out.old; write_faults = K.faults out.old; host_faults = H.faults host.old } in
         let after : Seen = record { left = S.left input.new; read_faults = S.faults input.new; written = K.written out.new; write_faults = K.faults out.new; host_faults = H.faults host.new } in
         are_alone_words words.now ≡ true → MatchOption result.fault (HasRun H.Vol.tells H.Vol.view (H.state host.old) (H.state host.new) before after (Ok result.status))
-          (λ fault. HasRun H.Vol.tells H.Vol.view (H.state host.old) (H.state host.new) before after (Err fault)) }
+        (λ fault. HasRun H.Vol.tells H.Vol.view (H.state host.old) (H.state host.new) before after (Err fault)) }
 {
     if !ask_for_alone(words) {
         return refused(Fault::BadWords);
@@ -84,7 +87,8 @@ fn run<H: Host, S: Source, K: Sink>(
     host: &mut H,
 ) -> Result<u8, Fault>
     requires { (H.state host.old).out 65535 ≡ false }
-    ensures { let before : Seen = record { left = S.left input.old; read_faults = S.faults input.old; written = K.written out.old; write_faults = K.faults out.old; host_faults = H.faults host.old } in
+    ensures back { (H.state host.new).out 65535 ≡ false }
+    ensures run { let before : Seen = record { left = S.left input.old; read_faults = S.faults input.old; written = K.written out.old; write_faults = K.faults out.old; host_faults = H.faults host.old } in
         let after : Seen = record { left = S.left input.new; read_faults = S.faults input.new; written = K.written out.new; write_faults = K.faults out.new; host_faults = H.faults host.new } in
         HasRun H.Vol.tells H.Vol.view (H.state host.old) (H.state host.new) before after result }
 {

@@ -8,12 +8,12 @@ pub returns-in-Ok : goal.returns-in-Ok
 returns-in-Ok g c =
     let it = c.in-Ok.ensures.stands in
     rw (sym c.in-Ok.ensures.kept) (inl (record {
-          basis = it.0;
-          parts_are = sym it.1.books.parts ∙ c.in-Ok.ensures.parts;
-          found = λ tells. (it.2 tells).0;
-          ran = ran_as _ it.0 _ _ _ _ _ _ _ _ _ _ _ _ (λ first answers keeps tells. keeps tells (it.2 tells).1) (λ first answers lasts tells. lasts tells (it.2 tells).1)
-              (c.serve.ensures it.0 (g.V.Volume.view c.args.vol).moment it.1 (omega (arith, it.3)));
-        }))
+      basis = it.0;
+      parts_are = sym it.1.books.parts ∙ c.in-Ok.ensures.parts;
+      found = λ tells. (it.2 tells).0;
+      ran = ran_as _ it.0 _ _ _ _ _ _ _ _ _ _ _ _ (λ first answers keeps tells. keeps tells (it.2 tells).1) (λ first answers lasts tells. lasts tells (it.2 tells).1)
+          (c.serve.ensures it.0 (g.V.Volume.view c.args.vol).moment it.1 (omega (arith, it.3)));
+    }))
 
 pub returns-in-Err : goal.returns-in-Err
 returns-in-Err g c =
