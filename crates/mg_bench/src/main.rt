@@ -5,6 +5,7 @@
 mod block;
 mod bloom;
 mod frame;
+mod script;
 mod segment;
 mod table;
 mod turn;
@@ -16,6 +17,37 @@ use std::env;
 use std::sync::Wait;
 use std::thread::Threads;
 use std::time::Instant;
+
+/// Each workload, in the order of the small run.
+const WORKLOADS: [&str; 27] = [
+    "put_frames",
+    "take_frames",
+    "digest_only",
+    "filter_put",
+    "filter_ask",
+    "filter_ask_hashed",
+    "build_blocks",
+    "find_in_blocks",
+    "list_blocks",
+    "scan_blocks",
+    "write_table",
+    "find_in_table",
+    "find_lent_in_table",
+    "find_absent_in_table",
+    "write_segment",
+    "get_from_segment",
+    "get_lent_from_segment",
+    "push_synced_each",
+    "push_synced_by_thousand",
+    "leave_log",
+    "recover_log",
+    "turn_by_one",
+    "turn_by_two",
+    "turn_by_four",
+    "script_plain",
+    "script_logged",
+    "script_of_64",
+];
 
 fn run<R: Threads + Wait + Sync>(
     rt: &R,
@@ -49,6 +81,9 @@ fn run<R: Threads + Wait + Sync>(
         "turn_by_one" => turn::turn_by_one(rt, alloc, count)?,
         "turn_by_two" => turn::turn_by_two(rt, alloc, count)?,
         "turn_by_four" => turn::turn_by_four(rt, alloc, count)?,
+        "script_plain" => script::script_plain(alloc, count, size)?,
+        "script_logged" => script::script_logged(alloc, count, size)?,
+        "script_of_64" => script::script_of_64(alloc, count, size)?,
         _ => bail!("no workload of that name"),
     };
     Ok(checksum)
@@ -57,32 +92,7 @@ fn run<R: Threads + Wait + Sync>(
 fn main(rt: HostRuntime) -> Result<()> {
     let mut words = env::args(&rt)?.skip(1);
     let Some(name) = words.next() else {
-        for name in [
-            "put_frames",
-            "take_frames",
-            "digest_only",
-            "filter_put",
-            "filter_ask",
-            "filter_ask_hashed",
-            "build_blocks",
-            "find_in_blocks",
-            "list_blocks",
-            "scan_blocks",
-            "write_table",
-            "find_in_table",
-            "find_lent_in_table",
-            "find_absent_in_table",
-            "write_segment",
-            "get_from_segment",
-            "get_lent_from_segment",
-            "push_synced_each",
-            "push_synced_by_thousand",
-            "leave_log",
-            "recover_log",
-            "turn_by_one",
-            "turn_by_two",
-            "turn_by_four",
-        ] {
+        for name in WORKLOADS {
             println!(rt; "{name} {}", run(&rt, rt.alloc(), name, 10, 20)?)?;
         }
         return Ok(());
