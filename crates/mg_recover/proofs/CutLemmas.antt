@@ -117,9 +117,16 @@ ends_behind [] recs first reach at reaches = omega (arith, reaches)
 ends_behind (log ∷ logs) recs first reach (inl none) reaches = absurd cc
 ends_behind (log ∷ logs) recs first reach (inr at) reaches = omega (arith, at, reaches)
 
+-- an image without a log ends at 0, and another behind its records
+ends_at : (logs : List Log) (recs : List Rec) (first : ℕ) → (logs ≡ []) ⊎ (first_of logs ≡ first) → (end_of logs recs ≡ 0) ⊎ (end_of logs recs ≡ first + length recs)
+ends_at [] recs first at = inl refl
+ends_at (log ∷ logs) recs first (inl none) = absurd cc
+ends_at (log ∷ logs) recs first (inr at) = inr (omega (arith, at))
+
 -- the records of the image are those that the opening counted, and the first of the list
-record IsFront (basis : Basis) (list : List Entry) (reach : ℕ) (recs more : List Rec) : Type 0 where
+record IsFront (basis : Basis) (list : List Entry) (reach : ℕ) (logs : List Log) (recs more : List Rec) : Type 0 where
   count : ℕ
+  ends : (end_of logs recs ≡ 0) ⊎ (end_of logs recs ≡ basis.first + length recs)
   length_is : length recs ≡ length basis.opened + count
   within : count ≤ length list
   reaches : reach ≤ basis.first + length recs
@@ -131,7 +138,7 @@ opened_among basis recs (inl none) reaches = omega (arith, ap (λ (rs : List Rec
 opened_among basis recs (inr found) reaches = omega (arith, found, reaches)
 
 is_front : (basis : Basis) (list : List Entry) (book : Book) (reach : ℕ) (image : Image) → Books basis list book → ((part : ℕ) → get_or book.released part 0 ≡ 0) → basis.reached ≤ reach
-    → (prefix : LeavesPrefix basis book.released list reach image) → IsFront basis list reach prefix.recs prefix.more
+    → (prefix : LeavesPrefix basis book.released list reach image) → IsFront basis list reach prefix.logs prefix.recs prefix.more
 is_front basis list book reach image books kept reached prefix =
     let skipped = none_skipped basis list book reach image books kept prefix in
     let among : all_recs basis list ≡ prefix.recs ++ prefix.more = prefix.among ∙ ap (λ (rs : List Rec). rs ++ (prefix.recs ++ prefix.more)) skipped in
@@ -153,6 +160,7 @@ is_front basis list book reach image books kept reached prefix =
     ) in
     record {
       count = count;
+      ends = ends_at prefix.logs prefix.recs basis.first (begins prefix.at skipped);
       length_is = length_is;
       within = omega (arith, length_is, all);
       reaches = reaches;
@@ -193,7 +201,14 @@ leaves_cut basis placed book partitions reach image stands reached prefix =
         made = are_made_first (entries_of prefix.recs) (entries_of prefix.more) (subst AreMade (sym front.entries) stands.made);
         led = λ part within. cut_is basis list prefix.recs (last_opened basis + front.count) front.count part refl front.are;
       };
+      ends = numbered front front.ends;
     }
+  where
+    numbered : (front : IsFront basis (run_changes basis placed) reach prefix.logs prefix.recs prefix.more)
+        → (end_of prefix.logs prefix.recs ≡ 0) ⊎ (end_of prefix.logs prefix.recs ≡ basis.first + length prefix.recs)
+        → (end_of prefix.logs prefix.recs ≡ 0) ⊎ (end_of prefix.logs prefix.recs ≡ last_opened basis + front.count + 1)
+    numbered front (inl none) = inl none
+    numbered front (inr at) = inr (omega (arith, at, front.length_is, stands.books.first))
 
 -- ---- the cut at the last change
 

@@ -77,6 +77,7 @@ keeps_log basis lines answers opening book partitions view stands bytes holds = 
       behind = it.behind;
       within = it.within;
       opened = it.opened;
+      ends = it.ends;
     }
 
 -- where all is synced, each image has all
