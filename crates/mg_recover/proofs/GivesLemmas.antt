@@ -122,15 +122,15 @@ no_sync call r e = let other : is_read Sync ≡ true = ap is_read (sym e) ∙ r 
 read_tries : (call : Call) (book : Book) → is_read call ≡ true → Tries call book book
 read_tries (Set key doc) book r = absurd cc
 read_tries (Del key) book r = absurd cc
-read_tries (Get key) book r = refl
-read_tries (Feed epoch after limit) book r = refl
-read_tries Mark book r = refl
-read_tries (Forget mark) book r = refl
-read_tries (Rollback to) book r = refl
-read_tries Clear book r = refl
+read_tries (Get key) book r = (refl, refl)
+read_tries (Feed epoch after limit) book r = (refl, refl)
+read_tries Mark book r = (refl, refl)
+read_tries (Forget mark) book r = (refl, refl)
+read_tries (Rollback to) book r = (refl, refl)
+read_tries Clear book r = (refl, refl)
 read_tries Sync book r = absurd cc
-read_tries (Compact through) book r = refl
-read_tries Stats book r = refl
+read_tries (Compact through) book r = (refl, refl)
+read_tries Stats book r = (refl, refl)
 
 pub read_gives : (part i : ℕ) (call : Call) (given : Result Reply Fault) (book : Book) (was : List Partition) (p p' : Partition)
     → i ≡ part → part < length was → p ≡ get_or was i p → is_read call ≡ true → IsStep p.plain call given p'.plain → p'.places ≡ p.places → IfErr given (λ f. f ≡ NoMemory)
@@ -165,19 +165,19 @@ change_is_no_sync (change.Forget mark) e = absurd cc
 change_is_no_sync (change.Back mark) e = absurd cc
 change_is_no_sync change.Clear e = absurd cc
 
-change_tries : (what : Change) (old new : Book) → new.newest ≡ old.newest → Tries (call_for what) old new
-change_tries (change.Set key doc) old new same = same
-change_tries (change.Del key) old new same = same
-change_tries change.Mark old new same = same
-change_tries (change.Forget mark) old new same = same
-change_tries (change.Back mark) old new same = same
-change_tries change.Clear old new same = same
+change_tries : (what : Change) (old new : Book) → new.newest ≡ old.newest → new.reach ≡ old.reach → Tries (call_for what) old new
+change_tries (change.Set key doc) old new newest reach = (newest, reach)
+change_tries (change.Del key) old new newest reach = (newest, reach)
+change_tries change.Mark old new newest reach = (newest, reach)
+change_tries (change.Forget mark) old new newest reach = (newest, reach)
+change_tries (change.Back mark) old new newest reach = (newest, reach)
+change_tries change.Clear old new newest reach = (newest, reach)
 
 -- nothing was reserved
 pub unreserved_gives : (part : ℕ) (what : Change) (f : Fault) (old new : Book) (was : List Partition) → IsServed (call_for what) → HasRoom (part_at was part).plain (call_for what) → new ≡ old → KeepsBooks old new → (f ≡ NoMemory) ⊎ IsWorn old part f
     → Gives part (call_for what) (Err f) old new was was
 unreserved_gives part what f old new was k room same keeps why =
-    gives_none part (call_for what) f old new was (ap parts_in same) (ap (λ (b : Book). b.released) same) (change_tries what old new (ap (λ (b : Book). b.newest) same)) (books_by_none (made_by part (call_for what) (Err f)) old new (err_makes_none part (call_for what) f) keeps)
+    gives_none part (call_for what) f old new was (ap parts_in same) (ap (λ (b : Book). b.released) same) (change_tries what old new (ap (λ (b : Book). b.newest) same) (ap (λ (b : Book). b.reach) same)) (books_by_none (made_by part (call_for what) (Err f)) old new (err_makes_none part (call_for what) f) keeps)
     (change_fault old part (part_at was part).plain what f k (kinds why))
   where
     kinds : (f ≡ NoMemory) ⊎ IsWorn old part f → IsChangeFault old part (part_at was part).plain (call_for what) f
@@ -189,7 +189,7 @@ pub unmade_gives : (part i : ℕ) (what : Change) (f : Fault) (old new : Book) (
     → i ≡ part → part < length was → p ≡ get_or was i p → IsServed (call_for what) → IsStep p.plain (call_for what) (Err f) p'.plain → p'.places ≡ p.places
     → new ≡ after_reserve (part, what) old → KeepsBooks old new → f ≡ NoMemory → Gives part (call_for what) (Err f) old new was (set was i p')
 unmade_gives part i what f old new was p p' e l at k step_is places_are staged keeps why =
-    gives_by part i (call_for what) (Err f) old new was p p' e l at step_is places_are (ap parts_in staged) (ap (λ (b : Book). b.released) staged) (change_tries what old new (ap (λ (b : Book). b.newest) staged))
+    gives_by part i (call_for what) (Err f) old new was p p' e l at step_is places_are (ap parts_in staged) (ap (λ (b : Book). b.released) staged) (change_tries what old new (ap (λ (b : Book). b.newest) staged) (ap (λ (b : Book). b.reach) staged))
     (books_by_none (made_by part (call_for what) (Err f)) old new (err_makes_none part (call_for what) f) keeps) (change_fault old part p.plain what f k (inl why)) (λ sync. tt)
 
 module _ (part : ℕ) (what : Change) (old mid new : Book) (staged : mid ≡ after_reserve (part, what) old) (next : IsNextOf old (part, what)) where
@@ -213,7 +213,9 @@ module _ (part : ℕ) (what : Change) (old mid new : Book) (staged : mid ≡ aft
   pushed_released book = ap (λ (b : Book). b.released) (book (part, what) staged_mid) ∙ ap (λ (b : Book). b.released) staged
 
   pub pushed_tries : ((e : Entry) → mid.staged ≡ Some (staged_of mid e) → new ≡ after_push e mid) → Tries (call_for what) old new
-  pushed_tries book = change_tries what old new (ap (λ (b : Book). b.newest) (book (part, what) staged_mid) ∙ ap (λ (b : Book). b.newest) staged)
+  pushed_tries book =
+      let pushed = book (part, what) staged_mid in
+      change_tries what old new (ap (λ (b : Book). b.newest) pushed ∙ ap (λ (b : Book). b.newest) staged) (ap (λ (b : Book). b.reach) pushed ∙ ap (λ (b : Book). b.reach) staged)
 
 pub made_gives : (part i : ℕ) (what : Change) (reply : Reply) (old mid new : Book) (was : List Partition) (p p' : Partition)
     → i ≡ part → part < length was → p ≡ get_or was i p → IsServed (call_for what) → IsStep p.plain (call_for what) (Ok reply) p'.plain → p'.places ≡ p.places

@@ -70,14 +70,14 @@ abbrev pub KeepsReachBy : List Entry → Book → Book → View → View → Typ
 KeepsReachBy entries old new view view' =
     (basis : Basis) (list : List Entry) (time reach : ℕ) → Books basis list old → Reaches basis list time reach old view → Reaches basis (list ++ entries) time reach new view'
 
--- the greatest number of a log stays, or rises by one
+-- the greatest number of a log stays, or rises by one, and what is synced stays so
 abbrev pub TriesOne : Book → Book → Type 0
-TriesOne old new = (old.newest ≤ new.newest) × (new.newest ≤ old.newest + 1)
+TriesOne old new = (old.newest ≤ new.newest) × (new.newest ≤ old.newest + 1) × (old.reach ≤ new.reach)
 
--- the greatest number of a log: a sync tries one at most, each other call none
+-- the greatest number of a log, and what is synced: a sync tries one log at most, and each other call leaves both
 abbrev pub Tries : Call → Book → Book → Type 0
 Tries Sync old new = TriesOne old new
-Tries other old new = new.newest ≡ old.newest
+Tries other old new = (new.newest ≡ old.newest) × (new.reach ≡ old.reach)
 
 -- What a call gave, and where the log and the partitions stand then, before the call takes its place.
 pub record Gives (part : ℕ) (call : Call) (given : Result Reply Fault) (old new : Book) (was now : List Partition) : Type 0 where

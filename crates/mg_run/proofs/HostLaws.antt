@@ -19,9 +19,9 @@ use Rattle.mg_run.specs.Hosting.{log_volume, IsInside, LeavesLess, OpenedRan, Op
 -- ---- what a run keeps, in other words
 
 -- what the last sync came to, in other words
-last_to : (basis : Basis) (Lasts Lasts' : Type 0) (synced : Result Unit Fault) → (Lasts → Lasts') → LastSync basis Lasts synced → LastSync basis Lasts' synced
-last_to basis Lasts Lasts' (Ok done) to last = to last
-last_to basis Lasts Lasts' (Err f) to last = last
+last_to : (basis : Basis) (lines : List Line) (answers : List Answer) (Lasts Lasts' : Type 0) (synced : Result Unit Fault) → (Lasts → Lasts') → LastSync basis lines answers Lasts synced → LastSync basis lines answers Lasts' synced
+last_to basis lines answers Lasts Lasts' (Ok done) to last = to last
+last_to basis lines answers Lasts Lasts' (Err f) to last = last
 
 pub ran_to : (parts : ℕ) (basis : Basis) (lines : List Line) (count count' : ℕ) (Keeps Lasts Keeps' Lasts' : List Line → List Answer → Type 0) (w w' : Option (List ℕ)) (k k' : ℕ) (synced : Result Unit Fault) (ended : Result ℕ Fault)
     → ((first : List Line) (answers : List Answer) → Keeps first answers → Keeps' first answers) → ((first : List Line) (answers : List Answer) → Lasts first answers → Lasts' first answers)
@@ -33,7 +33,8 @@ ran_to parts basis lines count count' Keeps Lasts Keeps' Lasts' w w' k k' synced
   split = r.split;
   fit = r.fit;
   log = keeps r.first r.answers r.log;
-  last = last_to basis (Lasts r.first r.answers) (Lasts' r.first r.answers) synced (lasts r.first r.answers) r.last;
+  needed = r.needed;
+  last = last_to basis r.first r.answers (Lasts r.first r.answers) (Lasts' r.first r.answers) synced (lasts r.first r.answers) r.last;
   rises = r.rises;
   ends = r.ends;
 }

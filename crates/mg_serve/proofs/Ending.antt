@@ -13,7 +13,7 @@ use Rattle.mg_recover.specs.Answers.{CarriesReach, IsSyncFault}
 use Rattle.mg_recover.specs.Cuts.{LeavesCut}
 use Rattle.mg_recover.specs.Made.{opened_by, run_changes}
 use Rattle.mg_recover.specs.Stores.{part_at, AllSynced, Stands}
-use Rattle.mg_recover.proofs.CutLemmas.{leaves_all, leaves_cut}
+use Rattle.mg_recover.proofs.CutLemmas.{book_last, leaves_all, leaves_cut}
 use Rattle.mg_script.specs.declared.script.Line.{Line}
 use Rattle.mg_script.specs.Transcript.{end_line}
 use Rattle.mg_types.specs.declared.faults.Fault.{Fault}
@@ -128,9 +128,10 @@ ran parts basis lines opening count mid now tells old was view view' standing bo
         (holds_on basis first answers opening standing.book book view view' (carries t (placed_of first answers) made.stands.stands) (made.holds t reaches))
 
     last : (first : List Line) (answers : List Answer) → length first ≤ line_limit → Made basis first answers standing opening count mid tells old was view → (given : Result Unit Fault) → OnOk given (AllSynced book)
-        → IfErr given (IsSyncFault standing.book) → LastSync basis (LastsFrom tells basis opening old was view' first answers) given
+        → IfErr given (IsSyncFault standing.book) → LastSync basis first answers (LastsFrom tells basis opening old was view' first answers) given
     last first answers short made (Ok done) all err = lasts first answers made all
-    last first answers short made (Err f) all err = sync_fault basis standing.book f (omega (arith, made.stands.newest, short)) err
+    last first answers short made (Err f) all err =
+        (omega (arith, made.stands.synced, err.0, book_last basis (placed_of first answers) standing.book made.stands.stands.books), sync_fault basis standing.book f (omega (arith, made.stands.newest, short)) err)
 
     -- the run whose calls came to the lines of these answers
     whole : (first behind : List Line) (answers : List Answer) → lines ≡ first ++ behind → Made basis first answers standing opening count mid tells old was view
@@ -142,6 +143,7 @@ ran parts basis lines opening count mid now tells old was view view' standing bo
       answers = answers;
       split = split;
       fit = made.stands.fit;
+      needed = made.stands.needed;
       log = log first answers made;
       last = last first answers (omega (arith, few, ap (λ (ls : List Line). length ls) split, length-append first behind)) made synced all err;
       rises = rises_sync synced count mid now (failed_writes answers) (faults_in answers) made.rises cause once;

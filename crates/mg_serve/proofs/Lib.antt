@@ -9,3 +9,4 @@ pub mod Pieces
 mod Rising
 mod ServingLemmas
 mod Ending
+mod Needing

@@ -1,8 +1,9 @@
 -- Which answers fit the calls of a script, where one thread makes them in order over one log.
-use Rattle.std.specs.Prelude.{◌≡◌, ◌<◌, ◌≤◌, ◌⊎◌, ℕ, ◌+◌, ◌-◌, ◌^◌, List, [], ◌∷◌, ◌++◌, ⊤, Ok, IfErr, IfOk, IfSome, OnOk}
+use Rattle.std.specs.Prelude.{◌≡◌, ◌<◌, ◌≤◌, ◌⊎◌, ℕ, ◌+◌, ◌-◌, ◌^◌, List, [], ◌∷◌, ◌++◌, ⊤, Result, Ok, Err, IfErr, IfOk, IfSome, OnOk}
 use Rattle.mg_model.specs.declared.calls.Call.{Call}
 use Rattle.mg_model.specs.declared.calls.Call.TheVariants.{Set, Del, Sync, Compact}
 use Rattle.mg_model.specs.declared.replies.Answer.{Answer}
+use Rattle.mg_model.specs.declared.replies.Reply.{Reply}
 use Rattle.mg_model.specs.declared.replies.Reply.TheVariants as reply
 use Rattle.mg_model.specs.Fits.{entered, Fits}
 use Rattle.mg_model.specs.Placed.{calls_in, history_in, state_in, Placed}
@@ -13,10 +14,10 @@ use Rattle.mg_recover.specs.Made.{opened_by, run_changes}
 use Rattle.mg_script.specs.declared.script.Line.{Line}
 use Rattle.mg_types.specs.declared.faults.Fault.{Fault}
 use Rattle.mg_types.specs.declared.faults.Fault.TheVariants as fault
-use Rattle.mg_wal.specs.Lists.{all_recs, Basis}
+use Rattle.mg_wal.specs.Lists.{all_recs, last_opened, Basis}
 use Rattle.mg_wal_format.specs.Logs.{counts_after}
 use Rattle.mg_wal_format.specs.Records.{counts_in}
-use Rattle.mg_serve.specs.Placed.{placed_by}
+use Rattle.mg_serve.specs.Placed.{placed_by, placed_of}
 
 -- no script has more lines
 abbrev pub line_limit : ℕ
@@ -80,3 +81,32 @@ IsSyncedAt basis before (line ∷ lines) [] number = ⊥
 IsSyncedAt basis before (line ∷ lines) (answer ∷ answers) number =
     ((answer.result ≡ Ok reply.Synced) × (number ≡ last_change basis (before ++ placed_by line answer)))
     ⊎ IsSyncedAt basis (before ++ placed_by line answer) lines answers number
+
+-- the number of the last change that is synced, behind one answer: that of the last change where all is synced, and else as before
+abbrev pub synced_after : ℕ → ℕ → Result Reply Fault → ℕ
+synced_after all synced (Ok reply.Synced) = all
+synced_after all synced other = synced
+
+-- the same behind the answers to some lines
+abbrev pub last_synced : Basis → List Placed → ℕ → List Line → List Answer → ℕ
+last_synced basis before synced [] answers = synced
+last_synced basis before synced (line ∷ lines) [] = synced
+last_synced basis before synced (line ∷ lines) (answer ∷ answers) =
+    last_synced basis (before ++ placed_by line answer) (synced_after (last_change basis (before ++ placed_by line answer)) synced answer.result) lines answers
+
+-- a sync that failed had a change to make lasting
+abbrev pub IsNeeded : Basis → List Placed → ℕ → Call → Result Reply Fault → Type 0
+IsNeeded basis before synced Sync (Err f) = synced < last_change basis before
+IsNeeded basis before synced call given = ⊤
+
+-- each sync among some lines that failed had a change to make lasting
+abbrev pub AreNeeded : Basis → List Placed → ℕ → List Line → List Answer → Type 0
+AreNeeded basis before synced [] answers = ⊤
+AreNeeded basis before synced (line ∷ lines) [] = ⊤
+AreNeeded basis before synced (line ∷ lines) (answer ∷ answers) =
+    IsNeeded basis before synced line.call answer.result
+    × AreNeeded basis (before ++ placed_by line answer) (synced_after (last_change basis (before ++ placed_by line answer)) synced answer.result) lines answers
+
+-- some change is behind the last that is synced
+abbrev pub IsUnsynced : Basis → List Line → List Answer → Type 0
+IsUnsynced basis lines answers = last_synced basis [] (last_opened basis) lines answers < last_change basis (placed_of lines answers)

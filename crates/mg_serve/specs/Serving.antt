@@ -13,9 +13,9 @@ use Rattle.mg_script.specs.Transcript.{end_line}
 use Rattle.mg_types.specs.declared.faults.Fault.{Fault}
 use Rattle.mg_types.specs.declared.faults.Fault.TheVariants as fault
 use Rattle.mg_wal.specs.Book.{Book}
-use Rattle.mg_wal.specs.Lists.{Basis}
+use Rattle.mg_wal.specs.Lists.{last_opened, Basis}
 use Rattle.mg_wal.specs.Stories.{Reaches}
-use Rattle.mg_serve.specs.Answers.{AllFit, MayFailSync}
+use Rattle.mg_serve.specs.Answers.{AllFit, AreNeeded, IsUnsynced, MayFailSync}
 use Rattle.mg_serve.specs.Lasting.{failed_writes, faults_in, faults_of, writes_of, Holds, KeepsLog, LeavesAllNow, RisesBy}
 use Rattle.mg_serve.specs.Placed.{placed_of}
 use Rattle.mg_serve.specs.Sessions.{Standing, StandsAt}
@@ -88,10 +88,10 @@ IsEnd partitions parts status written written' faults faults' (Ok served) (Ok sy
     (ended ≡ status) × Appends written written' (joined (partition_ends partitions parts)) × (faults' ≡ faults)
 IsEnd partitions parts status written written' faults faults' (Ok served) (Ok synced) (Err f) = BrokeInEnds partitions parts written written' faults faults' f
 
--- what the last sync came to: where it is answered, the log keeps all, and else its fault has a cause
-abbrev pub LastSync : Basis → Type 0 → Result Unit Fault → Type 0
-LastSync basis Lasts (Ok done) = Lasts
-LastSync basis Lasts (Err f) = MayFailSync basis f
+-- what the last sync came to: where it is answered, the log keeps all, and else it had a change to make lasting, and its fault has a cause
+abbrev pub LastSync : Basis → List Line → List Answer → Type 0 → Result Unit Fault → Type 0
+LastSync basis lines answers Lasts (Ok done) = Lasts
+LastSync basis lines answers Lasts (Err f) = IsUnsynced basis lines answers × MayFailSync basis f
 
 -- The run came to its end: all lines were answered and written, the last sync too and the end lines.
 pub record EndsWell (parts : ℕ) (basis : Basis) (lines first : List Line) (answers : List Answer) (synced : Result Unit Fault)
@@ -130,8 +130,8 @@ Ends parts basis lines first answers synced written written' faults faults' (Err
     ⊎ EndsUnsynced lines first answers synced written written' faults faults' f
     ⊎ BreaksInEnds parts basis lines first answers synced written written' faults faults' f
 
--- The calls of a script were made, in order, up to the end or to where writing stopped: the answers fit, the log keeps what it promises,
--- one sync more was made, the count of the log's volume rose as the answers and that sync say, what was written is theirs, and the run
+-- The calls of a script were made, in order, up to the end or to where writing stopped: the answers fit, syncs that failed were needed, the
+-- log keeps what it promises, one sync more was made, the count of the log's volume rose as the answers and that sync say, what was written is theirs, and the run
 -- ended for this reason.
 pub record Ran (parts : ℕ) (basis : Basis) (lines : List Line) (count count' : ℕ) (Keeps Lasts : List Line → List Answer → Type 0)
     (written written' : Option (List ℕ)) (faults faults' : ℕ) (synced : Result Unit Fault) (ended : Result ℕ Fault) : Type 0 where
@@ -141,7 +141,8 @@ pub record Ran (parts : ℕ) (basis : Basis) (lines : List Line) (count count' :
   pub split : lines ≡ first ++ behind
   pub fit : AllFit basis [] first answers
   pub log : Keeps first answers
-  pub last : LastSync basis (Lasts first answers) synced
+  pub needed : AreNeeded basis [] (last_opened basis) first answers
+  pub last : LastSync basis first answers (Lasts first answers) synced
   pub rises : RisesBy (failed_writes answers + writes_of synced) (faults_in answers + faults_of synced) count count'
   pub ends : Ends parts basis lines first answers synced written written' faults faults' ended
 

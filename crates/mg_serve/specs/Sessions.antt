@@ -5,11 +5,11 @@ use Rattle.mg_model.specs.declared.replies.Answer.{Answer}
 use Rattle.mg_recover.specs.declared.partition.Partition.{Partition}
 use Rattle.mg_recover.specs.Stores.{log_book, log_volume, partitions_of, Stands}
 use Rattle.mg_script.specs.declared.script.Line.{Line}
-use Rattle.mg_wal.specs.Book.{Book}
-use Rattle.mg_wal.specs.Lists.{Basis}
+use Rattle.mg_wal.specs.Book.{synced_of, Book}
+use Rattle.mg_wal.specs.Lists.{last_opened, Basis}
 use Rattle.mg_serve.specs.declared.session.Session.{Session}
 use Rattle.mg_serve.specs.Placed.{placed_of}
-use Rattle.mg_serve.specs.Answers.{line_limit, AllFit}
+use Rattle.mg_serve.specs.Answers.{last_synced, line_limit, AllFit, AreNeeded}
 use Rattle.mg_serve.specs.Statuses.{answers_status}
 use Rattle.mg_serve.specs.Told.{call_number}
 
@@ -32,6 +32,8 @@ session_volume session = log_volume session.store
 -- A session stands where these answers to these lines led what the opening found.
 pub record StandsAt (basis : Basis) (lines : List Line) (answers : List Answer) (standing : Standing) : Type 0 where
   pub fit : AllFit basis [] lines answers
+  pub needed : AreNeeded basis [] (last_opened basis) lines answers
+  pub synced : last_synced basis [] (last_opened basis) lines answers ≤ synced_of standing.book
   pub stands : Stands basis (placed_of lines answers) standing.book standing.partitions
   pub clients : length standing.counts ≡ 16
   pub counts : (client : ℕ) → client < 16 → slice_index standing.counts client ≡ count_by (λ other. other.client == client) lines

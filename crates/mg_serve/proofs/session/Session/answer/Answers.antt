@@ -2,7 +2,7 @@ use Rattle.std.proofs.Common.{◌∙◌, ap, arith}
 use Rattle.mg_serve.specs.Placed.{placed_of}
 use Rattle.mg_serve.specs.Statuses.{graver}
 use Rattle.mg_serve.proofs.Holding.{holds_next}
-use Rattle.mg_serve.proofs.Standing.{line_fault, next_answer, places_few, tries_few}
+use Rattle.mg_serve.proofs.Standing.{line_fault, next_answer, places_few}
 use Rattle.mg_serve.proofs.session.Session.answer.Goals as goal
 
 pub call-answer-requires-clause-few : goal.call-answer-requires-clause-few
@@ -14,7 +14,7 @@ pub returns-clause-answered : goal.returns-clause-answered
 returns-clause-answered g c = λ basis lines answers at few.
     next_answer basis lines answers c.args.line c.from-client.result _ (record { book = _; partitions = _; counts = c.args.self.now.counts; status = c.args.self.now.status }) _ _ c.graver_of-self.result at few c.requires.form.call
     (c.call-answer.ensures.answered basis (placed_of lines answers) c.args.line.client at.stands)
-    (tries_few c.args.line.call _ _ c.call-answer.ensures.tries)
+    c.call-answer.ensures.tries
     c.from-client.ensures
     (omega (arith, c.requires.form.client, c.from-client.ensures))
     (c.graver_of-self.ensures ∙ ap (graver c.args.self.now.status) c.status_of_result.ensures)
