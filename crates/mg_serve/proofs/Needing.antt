@@ -1,5 +1,5 @@
 -- That a sync which failed had a change to make lasting.
-use Rattle.std.proofs.Common.{◌≡◌, ◌<◌, ◌≤◌, ◌⊎◌, inl, inr, ℕ, ◌+◌, ◌-◌, List, [], ◌∷◌, ◌++◌, length, Result, Ok, Err, refl, ap, subst, sym, ◌∙◌, arith}
+use Rattle.std.proofs.Common.{◌≡◌, ◌≤◌, ℕ, List, [], ◌∷◌, ◌++◌, length, Result, Ok, Err, refl, ap, subst, sym, ◌∙◌, arith}
 use Rattle.std.proofs.lemmas.List.{append_assoc, append-nil}
 use Rattle.std.specs.Prelude.{IfErr}
 use Rattle.mg_model.specs.declared.calls.Call.{Call}
@@ -17,8 +17,7 @@ use Rattle.mg_recover.proofs.CutLemmas.{book_last}
 use Rattle.mg_script.specs.declared.script.Line.{Line}
 use Rattle.mg_types.specs.declared.faults.Fault.{Fault}
 use Rattle.mg_wal.specs.Book.{synced_of, Book}
-use Rattle.mg_wal.specs.Lists.{last_opened, next_of, Basis, Books, IsEmpty}
-use Rattle.mg_wal_format.specs.declared.record.Rec.{Rec}
+use Rattle.mg_wal.specs.Lists.{Basis, Books}
 use Rattle.mg_serve.specs.Placed.{placed_by, placed_of}
 use Rattle.mg_serve.specs.Answers.{last_synced, synced_after, AllFit, AreNeeded, IsNeeded}
 
@@ -45,7 +44,7 @@ synced_within all synced now (Err f) done before = before
 -- what is synced behind one line more
 pub last_synced-push : (basis : Basis) (before : List Placed) (synced : ℕ) (lines : List Line) (answers : List Answer) (line : Line) (answer : Answer) → AllFit basis before lines answers
     → last_synced basis before synced (lines ++ line ∷ []) (answers ++ answer ∷ [])
-      ≡ synced_after (last_change basis ((before ++ placed_of lines answers) ++ placed_by line answer)) (last_synced basis before synced lines answers) answer.result
+    ≡ synced_after (last_change basis ((before ++ placed_of lines answers) ++ placed_by line answer)) (last_synced basis before synced lines answers) answer.result
 last_synced-push basis before synced [] [] line answer e = ap (λ (ps : List Placed). synced_after (last_change basis (ps ++ placed_by line answer)) synced answer.result) (sym (append-nil before))
 last_synced-push basis before synced [] (a ∷ answers) line answer e = absurd e
 last_synced-push basis before synced (l ∷ lines) [] line answer e = absurd e
@@ -53,7 +52,7 @@ last_synced-push basis before synced (l ∷ lines) (a ∷ answers) line answer e
     let now : ℕ = synced_after (last_change basis (before ++ placed_by l a)) synced a.result in
     last_synced-push basis (before ++ placed_by l a) now lines answers line answer e.1
     ∙ ap (λ (ps : List Placed). synced_after (last_change basis (ps ++ placed_by line answer)) (last_synced basis (before ++ placed_by l a) now lines answers) answer.result)
-      (append_assoc before (placed_by l a) (placed_of lines answers))
+    (append_assoc before (placed_by l a) (placed_of lines answers))
 
 -- one line more
 pub needed-push : (basis : Basis) (before : List Placed) (synced : ℕ) (lines : List Line) (answers : List Answer) (line : Line) (answer : Answer) → AllFit basis before lines answers → AreNeeded basis before synced lines answers
@@ -62,11 +61,10 @@ needed-push basis before synced [] [] line answer e all n = (subst (λ (ps : Lis
 needed-push basis before synced [] (a ∷ answers) line answer e all n = absurd e
 needed-push basis before synced (l ∷ lines) [] line answer e all n = absurd e
 needed-push basis before synced (l ∷ lines) (a ∷ answers) line answer e all n =
-    let now : ℕ = synced_after (last_change basis (before ++ placed_by l a)) synced a.result in
-    (
+    let now : ℕ = synced_after (last_change basis (before ++ placed_by l a)) synced a.result in (
       all.0,
       needed-push basis (before ++ placed_by l a) now lines answers line answer e.1 all.1
-      (subst (λ (ps : List Placed). IsNeeded basis ps (last_synced basis (before ++ placed_by l a) now lines answers) line.call answer.result) (sym (append_assoc before (placed_by l a) (placed_of lines answers))) n),
+          (subst (λ (ps : List Placed). IsNeeded basis ps (last_synced basis (before ++ placed_by l a) now lines answers) line.call answer.result) (sym (append_assoc before (placed_by l a) (placed_of lines answers))) n),
     )
 
 -- a sync of a store fails only where something is unsynced

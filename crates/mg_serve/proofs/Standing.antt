@@ -113,8 +113,8 @@ next_answer basis lines answers line client answer old book partitions status at
             (is_needed basis placed (last_synced basis [] (last_opened basis) lines answers) line.part (state_in (opened_by basis) placed line.part) old.book line.call answer.result at.stands.books at.synced answered.fault);
         synced = subst (λ n. n ≤ synced_of book) (sym (last_synced-push basis [] (last_opened basis) lines answers line answer at.fit))
             (synced_within (last_change basis (placed ++ placed_by line answer)) (last_synced basis [] (last_opened basis) lines answers) (synced_of book) answer.result
-              (λ done. omega (arith, answered.synced done, book_last basis (placed ++ placed_by line answer) book answered.stands.books))
-              (omega (arith, at.synced, tries_synced line.call old.book book tries)));
+            (λ done. omega (arith, answered.synced done, book_last basis (placed ++ placed_by line answer) book answered.stands.books))
+            (omega (arith, at.synced, tries_synced line.call old.book book tries)));
         stands = subst (λ (ps : List Placed). Stands basis ps book partitions) (sym (placed-push basis [] lines answers line answer at.fit)) answered.stands;
         clients = length-set old.counts client (slice_index old.counts client + 1) ∙ at.clients;
         counts = λ k l. counted old.counts lines line client (omega (arith, small, at.clients)) named small at.counts k l;
