@@ -10,10 +10,9 @@ use mg_disk::{DiskError, Files};
 use mg_faults::FaultCount;
 use std::alloc::Global;
 use std::fs::File;
-use std::io;
 use std::io::{ErrorKind, Write};
-use std::rt;
 use std::sync::Arc;
+use std::{io, rt};
 
 /// A draft: a file that no name of a volume stands for.
 #[derive(Drop)]

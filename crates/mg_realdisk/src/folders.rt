@@ -54,7 +54,9 @@ pub(crate) fn names_in<R: Files<File = File> + AllocGlobal + Clone + Drop>(
     for entry in fs::read_dir(rt, folder)? {
         match entry {
             Ok(entry) => {
-                if let Some(name) = name_of(entry.file_name()) && entry.metadata()?.is_file() {
+                if let Some(name) = name_of(entry.file_name())
+                    && entry.metadata()?.is_file()
+                {
                     names.push(name)?;
                 }
             }

@@ -26,5 +26,5 @@ pub use files::{RealDraft, RealFiles, RealSealed};
 pub use hosts::RealHost;
 pub use volumes::{RealLog, RealVolume};
 
-
-
+#[cfg(test)]
+mod tests;

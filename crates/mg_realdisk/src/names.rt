@@ -64,13 +64,16 @@ pub(crate) fn name_of(text: &str) -> Option<Name> {
 /// Whether a draft is spelled so.
 pub(crate) fn is_draft(text: &str) -> bool {
     match text.split_at_checked(1) {
-        Some((letter, digits)) => letter == "d" && digits.len() == DRAFT_DIGITS && are_digits(digits),
+        Some((letter, digits)) => letter == "d"
+            && digits.len() == DRAFT_DIGITS
+            && are_digits(digits),
         None => false,
     }
 }
 
 fn are_digits(text: &str) -> bool {
-    text.bytes().all(|byte| matches!(byte, b'0'..=b'9' | b'a'..=b'f'))
+    text.bytes()
+        .all(|byte| matches!(byte, b'0'..=b'9' | b'a'..=b'f'))
 }
 
 fn letter_of(kind: Kind) -> char {
