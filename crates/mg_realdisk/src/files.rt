@@ -6,7 +6,7 @@ ghost use Rattle.mg_faults.specs.Causes.{kept_count};
 use crate::counted::counted;
 use crate::names::draft_path;
 use crate::opened::{FileNumber, number_of, read_from};
-use mg_disk::{DiskError, Files};
+use mg_disk::{DiskError, Files, SendFiles};
 use mg_faults::FaultCount;
 use std::alloc::Global;
 use std::fs::File;
@@ -184,3 +184,5 @@ impl<R: rt::Files<File = File> + AllocGlobal + Clone + Drop> Files for RealFiles
 
     ghost bounded = { λ port. kept_is_bounded port.faults };
 }
+
+impl<R: rt::Files<File = File> + AllocGlobal + Clone + Drop + Send> SendFiles for RealFiles<R> {}

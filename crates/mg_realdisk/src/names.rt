@@ -1,6 +1,8 @@
 //! How names, volumes and drafts are spelled in a folder.
 
-ghost use Rattle.std.specs.Prelude.{◌≡◌};
+ghost use Rattle.std.specs.Prelude.{◌≡◌, Some, IfSome};
+ghost use Rattle.mg_realdisk.specs.Names.{kind_letter};
+ghost use Rattle.mg_types.specs.declared.names.Kind.{Kind};
 
 use mg_disk::{Kind, Name};
 use std::alloc::{AllocError, Global};
@@ -52,8 +54,9 @@ pub(crate) fn draft_path(
 
 /// The name that is spelled so, if one is.
 pub(crate) fn name_of(text: &str) -> Option<Name> {
-    let (letter, digits) = text.split_at_checked(1)?;
-    let kind = kind_of(letter)?;
+    let mut rest = text.chars();
+    let kind = kind_of(rest.next()?)?;
+    let digits = rest.as_str();
     if digits.len() != NAME_DIGITS || !are_digits(digits) {
         return None;
     }
@@ -76,7 +79,9 @@ fn are_digits(text: &str) -> bool {
         .all(|byte| matches!(byte, b'0'..=b'9' | b'a'..=b'f'))
 }
 
-fn letter_of(kind: Kind) -> char {
+fn letter_of(kind: Kind) -> char
+    ensures { result ≡ kind_letter kind }
+{
     match kind {
         Kind::Table => 't',
         Kind::Segment => 's',
@@ -86,13 +91,16 @@ fn letter_of(kind: Kind) -> char {
     }
 }
 
-fn kind_of(letter: &str) -> Option<Kind> {
+fn kind_of(letter: char) -> Option<Kind>
+    ensures right { IfSome result (λ kind. kind_letter kind ≡ letter) }
+    ensures found { (kind : Kind) → kind_letter kind ≡ letter → result ≡ Some kind }
+{
     match letter {
-        "t" => Some(Kind::Table),
-        "s" => Some(Kind::Segment),
-        "d" => Some(Kind::DelList),
-        "m" => Some(Kind::Manifest),
-        "w" => Some(Kind::Wal),
+        't' => Some(Kind::Table),
+        's' => Some(Kind::Segment),
+        'd' => Some(Kind::DelList),
+        'm' => Some(Kind::Manifest),
+        'w' => Some(Kind::Wal),
         _ => None,
     }
 }

@@ -80,12 +80,12 @@ fn files_stand_where_their_names_say(rt: HostRuntime) -> Result<(), Fail> {
 fn call_each(rt: HostRuntime, folder: &str) -> Result<[bool; 3], DiskError> {
     let alloc = rt.alloc();
     let mut host = RealHost::new(rt, String::from_str(alloc, folder)?);
-    let port = host.files(alloc);
     let volume = host.volume(alloc, 0);
+    let port = host.files(alloc);
     let settings = host.settings(alloc);
     Ok([
-        has_failed(&port),
         has_failed(&volume),
+        has_failed(&port),
         has_failed(&settings),
     ])
 }

@@ -8,7 +8,7 @@ use crate::files::{Origin, RealFiles, RealSealed};
 use crate::folders::{names_in, sync_folder};
 use crate::names::path_of;
 use crate::opened::{FileNumber, is_there, open_if_there, read_from};
-use mg_disk::{DiskError, Name, Volume};
+use mg_disk::{DiskError, Name, SendVolume, Volume};
 use mg_faults::FaultCount;
 use std::alloc::Global;
 use std::collections::{BTreeMap, BTreeSet};
@@ -274,3 +274,5 @@ impl<R: Files<File = File> + AllocGlobal + Clone + Drop> Volume for RealVolume<R
 
     ghost bounded = { λ volume. kept_is_bounded volume.faults };
 }
+
+impl<R: Files<File = File> + AllocGlobal + Clone + Drop + Send> SendVolume for RealVolume<R> {}
