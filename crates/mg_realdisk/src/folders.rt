@@ -8,14 +8,29 @@ use std::io::ErrorKind;
 use std::rt::Files;
 use std::{fs, io};
 
-/// Makes the folder if it is missing, and syncs the one that holds it. A folder above it that is missing is made too, but
-/// not synced.
+/// Makes the folder if it is missing, and syncs the one that holds it. Each folder above it that is missing is made and
+/// synced in the same way first.
 pub(crate) fn make_folder<R: Files<File = File>>(
     rt: &R,
     alloc: Global,
     folder: &str,
 ) -> io::Result<()> {
-    fs::create_dir_all(rt, folder)?;
+    for end in 1..folder.len() {
+        if let Some((above, rest)) = folder.split_at_checked(end)
+            && rest.starts_with('/')
+            && !fs::exists(rt, above)?
+        {
+            make_in(rt, alloc, above)?;
+        }
+    }
+    make_in(rt, alloc, folder)
+}
+
+// Makes the folder if it is missing, in a folder that is there, which is synced.
+fn make_in<R: Files<File = File>>(rt: &R, alloc: Global, folder: &str) -> io::Result<()> {
+    if !fs::exists(rt, folder)? {
+        fs::create_dir(rt, folder)?;
+    }
     let above = format!(in alloc; "{folder}/..")?;
     sync_folder(rt, above.as_str())
 }
@@ -43,6 +58,27 @@ fn open_folder<R: Files<File = File>>(rt: &R, folder: &str) -> io::Result<File> 
     File::open(rt, folder)
 }
 
+// How the regular files of a folder are named. A name that is no text is left out.
+fn files_in<R: Files<File = File> + AllocGlobal + Clone + Drop>(
+    rt: &R,
+    alloc: Global,
+    folder: &str,
+) -> io::Result<Vec<String>> {
+    let mut files = Vec::new(alloc);
+    for entry in fs::read_dir(rt, folder)? {
+        match entry {
+            Ok(entry) => {
+                if entry.metadata()?.is_file() {
+                    files.push(String::from_str(alloc, entry.file_name())?)?;
+                }
+            }
+            Err(error) if error.kind() == ErrorKind::InvalidFilename => {}
+            Err(error) => return Err(error),
+        }
+    }
+    Ok(files)
+}
+
 /// The names in a volume's folder, by kind and then by number. What is no regular file, or is not spelled as a name, is left
 /// alone.
 pub(crate) fn names_in<R: Files<File = File> + AllocGlobal + Clone + Drop>(
@@ -51,18 +87,9 @@ pub(crate) fn names_in<R: Files<File = File> + AllocGlobal + Clone + Drop>(
     folder: &str,
 ) -> io::Result<Vec<Name>> {
     let mut names = Vec::new(alloc);
-    for entry in fs::read_dir(rt, folder)? {
-        match entry {
-            Ok(entry) => {
-                if let Some(name) = name_of(entry.file_name())
-                    && entry.metadata()?.is_file()
-                {
-                    names.push(name)?;
-                }
-            }
-            // the file's name is no text
-            Err(error) if error.kind() == ErrorKind::InvalidFilename => {}
-            Err(error) => return Err(error),
+    for file in files_in(rt, alloc, folder)? {
+        if let Some(name) = name_of(file.as_str()) {
+            names.push(name)?;
         }
     }
     names.sort()?;
@@ -75,30 +102,12 @@ pub(crate) fn delete_drafts<R: Files<File = File> + AllocGlobal + Clone + Drop>(
     alloc: Global,
     folder: &str,
 ) -> io::Result<()> {
-    for path in drafts_in(rt, alloc, folder)? {
-        fs::remove_file(rt, path)?;
-    }
-    Ok(())
-}
-
-fn drafts_in<R: Files<File = File> + AllocGlobal + Clone + Drop>(
-    rt: &R,
-    alloc: Global,
-    folder: &str,
-) -> io::Result<Vec<String>> {
-    let mut paths = Vec::new(alloc);
-    for entry in fs::read_dir(rt, folder)? {
-        match entry {
-            Ok(entry) => {
-                if is_draft(entry.file_name()) && entry.metadata()?.is_file() {
-                    paths.push(String::from_str(alloc, entry.path().as_str())?)?;
-                }
-            }
-            Err(error) if error.kind() == ErrorKind::InvalidFilename => {}
-            Err(error) => return Err(error),
+    for file in files_in(rt, alloc, folder)? {
+        if is_draft(file.as_str()) {
+            fs::remove_file(rt, format!(in alloc; "{folder}/{file}")?)?;
         }
     }
-    Ok(paths)
+    Ok(())
 }
 
 /// Makes all that a volume's folder holds lasting: each log, and then the names. Sealed files were synced before they had a

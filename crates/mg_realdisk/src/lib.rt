@@ -7,6 +7,7 @@
 //! - where a file is adopted, its draft is renamed, and then the folder that holds the name is synced;
 //! - a new log is made, synced while it is empty, and then its folder is synced;
 //! - where a name is removed, also one that was not there, the folder is synced behind it;
+//! - a folder that is missing is made, and then the one that holds it is synced;
 //! - before a volume is lent, the folders that hold it are synced, then each log in it, then its own folder.
 //!
 //! One folder serves one host at a time: the host locks it at the first call that touches it, and the system frees the lock

@@ -52,7 +52,7 @@ fn read(
 #[test]
 fn a_second_host_reads_what_the_first_stored(rt: HostRuntime) -> Result<(), Fail> {
     let folder = new_folder(&rt, "stored")?;
-    let root = format!(in rt.alloc(); "{folder}/store")?;
+    let root = format!(in rt.alloc(); "{folder}/above/store")?;
     let (mut table, mut log) = (*b"---------", *b"---------");
     assert_eq!(rt; store(rt, &root)?, (true, true));
     let found = read(rt, &root, &mut table, &mut log)?;
