@@ -1,37 +1,44 @@
-//! The program `magma`: it answers the script on standard input by a transcript on standard output.
+//! The program `magma`: it answers the script on standard input by a transcript on standard output, and keeps its store in a folder.
 //!
-//! Everything that matters stands in `mg_run`; here the real streams are made, and an empty host in memory, whose store lasts as
-//! long as the run.
+//! Everything that matters stands in `mg_run`; here the real streams and the host of the real folder are made.
 #![tactic(auto)]
 
 use mg_io::{StdSink, StdSource};
-use mg_memdisk::MemHost;
 use mg_model::Fault;
-use mg_run::{Ending, alone, end_program, refused};
+use mg_realdisk::RealHost;
+use mg_run::{Ending, Ran, alone, end_program, refused};
 use std::alloc::AllocError;
 use std::process::ExitCode;
 use std::{env, io};
 
 fn main(rt: HostRuntime) -> ExitCode {
-    let ran = match words_of(&rt) {
-        Ok(words) => {
-            let mut input = StdSource::new(rt.stdin());
-            let mut out = StdSink::new(rt.stdout());
-            let mut host = MemHost::new(rt.alloc(), None);
-            alone(
-                rt.alloc(),
-                words.as_slice(),
-                &mut input,
-                &mut out,
-                &mut host,
-            )
-        }
+    let ran = match run(&rt) {
+        Ok(ran) => ran,
         Err(_) => refused(Fault::NoMemory),
     };
     let mut error = StdSink::new(rt.stderr());
     // Where standard error takes nothing, the status still tells.
     let Ending { code, said: _ } = end_program(rt.alloc(), &ran, &mut error);
     code
+}
+
+/// The run that the words ask for, over the folder that the first one names.
+fn run(rt: &HostRuntime) -> Result<Ran, AllocError> {
+    let words = words_of(rt)?;
+    let folder = match words.first() {
+        Some(folder) => String::from_str(rt.alloc(), folder.as_str())?,
+        None => String::new(rt.alloc()),
+    };
+    let mut host = RealHost::new(rt.clone()?, folder);
+    let mut input = StdSource::new(rt.stdin());
+    let mut out = StdSink::new(rt.stdout());
+    Ok(alone(
+        rt.alloc(),
+        words.as_slice(),
+        &mut input,
+        &mut out,
+        &mut host,
+    ))
 }
 
 /// The words after the program's name. Words that are not all text give none, which are bad words too.

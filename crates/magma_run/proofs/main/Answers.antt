@@ -1,4 +1,0 @@
-use Rattle.magma_run.proofs.main.Goals as goal
-
-pub alone-ran-requires : goal.alone-ran-requires
-alone-ran-requires c = c.new-host.ensures.inside 65535
