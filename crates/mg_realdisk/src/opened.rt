@@ -2,7 +2,7 @@
 
 ghost use Rattle.std.specs.Prelude.{◌≤◌, length, IfOk};
 
-use std::fs::File;
+use std::fs::{File, Metadata};
 use std::io::ErrorKind;
 use std::os::unix::fs::{FileExt, MetadataExt};
 use std::rt::Files;
@@ -20,11 +20,27 @@ pub struct FileNumber {
 
 /// What the system knows an opened file by.
 pub(crate) fn number_of(file: &File) -> io::Result<FileNumber> {
-    let metadata = file.metadata()?;
-    Ok(FileNumber {
+    Ok(number_in(&file.metadata()?))
+}
+
+fn number_in(metadata: &Metadata) -> FileNumber {
+    FileNumber {
         device: metadata.dev(),
         inode: metadata.ino(),
-    })
+    }
+}
+
+/// An error where the file with that number does not stand at that path.
+pub(crate) fn check_stands<R: Files<File = File>>(
+    rt: &R,
+    path: &str,
+    number: FileNumber,
+) -> io::Result<()> {
+    if number_in(&fs::symlink_metadata(rt, path)?) == number {
+        Ok(())
+    } else {
+        Err(io::Error::from(ErrorKind::NotFound))
+    }
 }
 
 /// The regular file at that path; None where there is none.

@@ -2,7 +2,10 @@
 
 use crate::RealHost;
 use crate::names::{is_draft, name_of};
-use mg_disk::{DiskError, Host, Kind, Name, Volume, read_file, read_found, store_file, store_log};
+use mg_disk::{
+    DiskError, Files, Host, Kind, Name, Volume, read_file, read_found, store_file, store_log,
+    write_file,
+};
 use std::test::Fail;
 use std::{env, fs, io, process};
 
@@ -234,6 +237,27 @@ fn a_found_file_gets_a_second_name(rt: HostRuntime) -> Result<(), Fail> {
     volume.remove(alloc, TABLE)?;
     volume.remove(alloc, TABLE)?;
     assert_eq!(rt; volume.names(alloc)?.as_slice(), [second].as_slice());
+    fs::remove_dir_all(&rt, &folder)?;
+    Ok(())
+}
+
+// The second host deletes the first one's draft, and its port begins one at the same path.
+#[test]
+fn a_file_is_not_named_where_another_stands(rt: HostRuntime) -> Result<(), Fail> {
+    let alloc = rt.alloc();
+    let folder = new_folder(&rt, "replaced")?;
+    let mut first = RealHost::new(rt, String::from_str(alloc, &folder)?);
+    let mut port = first.files(alloc)?;
+    let file = write_file(alloc, &mut port, b"a table")?;
+    drop(port);
+    drop(first);
+    let mut second = RealHost::new(rt, String::from_str(alloc, &folder)?);
+    let mut volume = second.volume(alloc, 3)?;
+    let mut port = second.files(alloc)?;
+    let draft = port.fresh(alloc)?;
+    assert!(rt; has_failed(&volume.adopt(alloc, TABLE, &file)));
+    assert!(rt; volume.names(alloc)?.is_empty());
+    drop(draft);
     fs::remove_dir_all(&rt, &folder)?;
     Ok(())
 }

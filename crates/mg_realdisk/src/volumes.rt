@@ -7,7 +7,7 @@ use crate::counted::counted;
 use crate::files::{Origin, RealFiles, RealSealed};
 use crate::folders::{names_in, sync_folder};
 use crate::names::path_of;
-use crate::opened::{FileNumber, is_there, open_if_there, read_from};
+use crate::opened::{FileNumber, check_stands, is_there, open_if_there, read_from};
 use mg_disk::{DiskError, Name, SendVolume, Volume};
 use mg_faults::FaultCount;
 use std::alloc::Global;
@@ -82,7 +82,8 @@ fn find_in<R: Files<File = File>>(
 }
 
 // Renames the file's draft, or links a file that has a name already, and then syncs the folder. It replaces no file: one that
-// is there under the name is an error. A file whose draft has got a name already is one too.
+// is there under the name is an error. So is a file that has left the path that it was known by, as where its draft has a name
+// already: another file may stand there now.
 fn adopt_in<R: Files<File = File>>(
     rt: &R,
     alloc: Global,
@@ -95,8 +96,14 @@ fn adopt_in<R: Files<File = File>>(
         return Err(io::Error::from(ErrorKind::AlreadyExists));
     }
     match &file.opened.origin {
-        Origin::Draft(draft) => fs::rename(rt, draft, &path)?,
-        Origin::Named(other) => fs::hard_link(rt, other, &path)?,
+        Origin::Draft(draft) => {
+            check_stands(rt, draft.as_str(), file.number)?;
+            fs::rename(rt, draft, &path)?;
+        }
+        Origin::Named(other) => {
+            check_stands(rt, other.as_str(), file.number)?;
+            fs::hard_link(rt, other, &path)?;
+        }
     }
     sync_folder(rt, folder)
 }
