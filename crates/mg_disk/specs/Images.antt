@@ -1,6 +1,6 @@
 -- What a volume holds, what a crash may leave of it, and what the calls of a volume do to both.
 use Rattle.std.specs.Prelude.{◌≡◌, ◌≢◌, ◌≤◌, ◌⊎◌, ℕ, Bool, false, Option, None, Some, List, [], ◌++◌, length}
-use Rattle.mg_disk.specs.Files.{IsFront}
+use Rattle.mg_disk.specs.Files.{IsFront, extended}
 use Rattle.mg_types.specs.Bytes.{AreBytes}
 use Rattle.mg_types.specs.declared.names.Name.{Name}
 use Rattle.mg_types.specs.Names.{IsLogName}
@@ -40,6 +40,14 @@ pub record Sets (name : Name) (value : Option (List ℕ)) (old new : Image) : Ty
 -- each other name stands for what it stood for
 abbrev pub KeepsOthers : Name → Image → Image → Type 0
 KeepsOthers name old new = (other : Name) → other ≢ name → new other ≡ old other
+
+-- the same image, or one in which this name stands for that
+abbrev pub SameOrSets : Name → Option (List ℕ) → Image → Image → Type 0
+SameOrSets name value old new = (new ≡ old) ⊎ Sets name value old new
+
+-- the same image, or one in which this name stands for a front of these bytes
+abbrev pub SameOrFront : Name → List ℕ → Image → Image → Type 0
+SameOrFront name bytes old new = (new ≡ old) ⊎ ((front : List ℕ) × IsFront front bytes × Sets name (Some front) old new)
 
 -- The log has more bytes in this image: what it had there, and any bytes behind, up to so many in all.
 pub record Grows (name : Name) (most : ℕ) (old new : Image) : Type 0 where
@@ -90,6 +98,16 @@ pub record PartAppended (name : Name) (bytes : List ℕ) (old new : View) : Type
 -- an append that failed: nothing changed, or a front of the bytes stands behind the log's
 abbrev pub AppendFailed : Name → List ℕ → View → View → Type 0
 AppendFailed name bytes old new = Stays old new ⊎ PartAppended name bytes old new
+
+-- These bytes stand behind the log's, as reads give it and as it counts as written, and nothing else changed of either.
+pub record LogGrew (name : Name) (bytes : List ℕ) (old new : View) : Type 0 where
+  pub contents : Sets name (extended (old.contents name) bytes) old.contents new.contents
+  pub at : new.written name ≡ old.written name ++ bytes
+  pub elsewhere : (other : Name) → other ≢ name → new.written other ≡ old.written other
+
+-- The log grew by some front of these bytes.
+abbrev pub LogGrewByFront : Name → List ℕ → View → View → Type 0
+LogGrewByFront name bytes old new = (front : List ℕ) × IsFront front bytes × LogGrew name front old new
 
 -- Nothing changed, and each crash leaves the log as it is, and the rest as it could leave it before.
 pub record Synced (name : Name) (old new : View) : Type 0 where

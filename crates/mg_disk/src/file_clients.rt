@@ -1,12 +1,12 @@
 //! Small clients of sealed files, proved over every host: a file is written, sealed and adopted, and found and read again,
 //! also after a crash.
 
-ghost use Rattle.std.specs.Prelude.{◌≡◌, ◌≢◌, ◌<◌, List, ℕ, None, Some, IfOk, IfSome, IsSome, IsSomeAnd, IsTrue, false};
+ghost use Rattle.std.specs.Prelude.{◌≡◌, ◌≢◌, ◌≤◌, ◌<◌, List, ℕ, None, Some, length, IfOk, OnErr, IfSome, IsSome, IsSomeAnd, IsTrue, false};
 ghost use Rattle.mg_faults.specs.Causes.{CountsOnce, HasCause, last_count};
 ghost use Rattle.mg_disk.specs.Files.{ReadsAt, found_bytes};
 ghost use Rattle.mg_disk.specs.Hosts.{IsVolume, SameButFor};
-ghost use Rattle.mg_disk.specs.Images.{KeepsOthers, Stays};
-ghost use Rattle.mg_disk.specs.Moments.{EachImage};
+ghost use Rattle.mg_disk.specs.Images.{KeepsOthers, SameOrSets, Stays};
+ghost use Rattle.mg_disk.specs.Moments.{EachImage, LeavesOnly, LeftOrSet};
 ghost use Rattle.mg_types.specs.declared.names.Name.{Name};
 ghost use Rattle.mg_types.specs.Names.{IsFileName};
 
@@ -30,6 +30,7 @@ pub fn write_file<F: Files>(
 }
 
 /// Lets a free name stand for a file, also after each crash. False where the name is there already.
+/// After an error the name may stand for the file, and after a crash it may or not.
 pub fn adopt_file<V: Volume>(
     alloc: Global,
     volume: &mut V,
@@ -42,6 +43,11 @@ pub fn adopt_file<V: Volume>(
     ensures others { IsTrue V.tells → KeepsOthers name (V.view volume.old).contents (V.view volume.new).contents }
     ensures kept { IsTrue V.tells → IsSome ((V.view volume.old).contents name) → Stays (V.view volume.old) (V.view volume.new)
         × IfOk result (λ made. made ≡ false) }
+    ensures doubt { IsTrue V.tells → OnErr result (SameOrSets name (V.Port.told file.now) (V.view volume.old).contents (V.view volume.new).contents) }
+    ensures any_moment { IsTrue V.tells → LeavesOnly (V.view volume.old) (V.view volume.new) (LeftOrSet (V.view volume.old) name (V.Port.told file.now)) }
+    ensures given { IfOk result (λ made. IsTrue made → V.stands_for volume.new name ≡ Some (V.Port.identity file.now)) }
+    ensures standing { (other : Name) → other ≢ name → V.stands_for volume.new other ≡ V.stands_for volume.old other }
+    ensures writing { (log : V.Log) → V.in_writing volume.new log ≡ V.in_writing volume.old log }
     ensures cause { HasCause DiskError.Failed (V.faults volume.old) (V.faults volume.new) result }
     ensures once { CountsOnce (V.faults volume.old) (V.faults volume.new) result }
 {
@@ -73,6 +79,10 @@ pub fn store_file<H: Host>(
     ensures kept { IsTrue H.Vol.tells → (before after : H.Vol) → (H.state host.old).inside n ≡ Some before
         → (H.state host.new).inside n ≡ Some after → IsSome ((H.Vol.view before).contents name)
         → ((H.Vol.view after).contents ≡ (H.Vol.view before).contents) × IfOk result (λ made. made ≡ false) }
+    ensures doubt { IsTrue H.Vol.tells → OnErr result ((before after : H.Vol) → (H.state host.old).inside n ≡ Some before
+        → (H.state host.new).inside n ≡ Some after → SameOrSets name (Some bytes.now) (H.Vol.view before).contents (H.Vol.view after).contents) }
+    ensures images { IsTrue H.Vol.tells → (before after : H.Vol) → (H.state host.old).inside n ≡ Some before
+        → (H.state host.new).inside n ≡ Some after → EachImage (H.Vol.view after) (LeftOrSet (H.Vol.view before) name (Some bytes.now)) }
     ensures back { (H.state host.new).out n ≡ false }
     ensures rest { SameButFor n (H.state host.old) (H.state host.new) }
     ensures cause { (H.state host.new).lent_faults n < last_count → HasCause DiskError.Failed (H.faults host.old) (H.faults host.new) result }
@@ -119,6 +129,10 @@ fn adopt_in<H: Host>(
     ensures kept { IsTrue H.Vol.tells → (before after : H.Vol) → (H.state host.old).inside n ≡ Some before
         → (H.state host.new).inside n ≡ Some after → IsSome ((H.Vol.view before).contents name)
         → ((H.Vol.view after).contents ≡ (H.Vol.view before).contents) × IfOk result (λ made. made ≡ false) }
+    ensures doubt { IsTrue H.Vol.tells → OnErr result ((before after : H.Vol) → (H.state host.old).inside n ≡ Some before
+        → (H.state host.new).inside n ≡ Some after → SameOrSets name (H.Vol.Port.told file.now) (H.Vol.view before).contents (H.Vol.view after).contents) }
+    ensures images { IsTrue H.Vol.tells → (before after : H.Vol) → (H.state host.old).inside n ≡ Some before
+        → (H.state host.new).inside n ≡ Some after → EachImage (H.Vol.view after) (LeftOrSet (H.Vol.view before) name (H.Vol.Port.told file.now)) }
     ensures back { (H.state host.new).out n ≡ false }
     ensures rest { SameButFor n (H.state host.old) (H.state host.new) }
     ensures cause { (H.state host.new).lent_faults n < last_count → HasCause DiskError.Failed (H.faults host.old) (H.faults host.new) result }
@@ -146,8 +160,12 @@ pub fn read_file<H: Host>(
         → IfOk result (λ found. IsSomeAnd found (λ count. ReadsAt file 0 buf.old buf.new count)) }
     ensures absent { IsTrue H.Vol.tells → (vol : H.Vol) → (H.state host.old).inside n ≡ Some vol → (H.Vol.view vol).contents name ≡ None
         → IfOk result (λ found. found ≡ None) }
+    ensures bound { IfOk result (λ found. IfSome found (λ count. count ≤ length buf.old)) }
+    ensures untouched { IfOk result (λ found. found ≡ None → buf.new ≡ buf.old) }
     ensures keeps { IsTrue H.Vol.tells → (before after : H.Vol) → (H.state host.old).inside n ≡ Some before
         → (H.state host.new).inside n ≡ Some after → (H.Vol.view after).contents ≡ (H.Vol.view before).contents }
+    ensures images { IsTrue H.Vol.tells → (before after : H.Vol) → (H.state host.old).inside n ≡ Some before
+        → (H.state host.new).inside n ≡ Some after → EachImage (H.Vol.view after) (H.Vol.view before).may_leave }
     ensures back { (H.state host.new).out n ≡ false }
     ensures rest { SameButFor n (H.state host.old) (H.state host.new) }
     ensures cause { (H.state host.new).lent_faults n < last_count → HasCause DiskError.Failed (H.faults host.old) (H.faults host.new) result }
@@ -173,6 +191,8 @@ fn find_in<H: Host>(
         → IfOk result (λ found. found_bytes H.Vol.Port.told found ≡ (H.Vol.view vol).contents name) }
     ensures keeps { IsTrue H.Vol.tells → (before after : H.Vol) → (H.state host.old).inside n ≡ Some before
         → (H.state host.new).inside n ≡ Some after → (H.Vol.view after).contents ≡ (H.Vol.view before).contents }
+    ensures images { IsTrue H.Vol.tells → (before after : H.Vol) → (H.state host.old).inside n ≡ Some before
+        → (H.state host.new).inside n ≡ Some after → EachImage (H.Vol.view after) (H.Vol.view before).may_leave }
     ensures back { (H.state host.new).out n ≡ false }
     ensures rest { SameButFor n (H.state host.old) (H.state host.new) }
     ensures cause { (H.state host.new).lent_faults n < last_count → HasCause DiskError.Failed (H.faults host.old) (H.faults host.new) result }
@@ -192,6 +212,7 @@ fn read_through<H: Host>(
     buf: &mut [u8],
 ) -> Result<usize, DiskError>
     ensures bytes { IfOk result (λ count. IfSome (H.Vol.Port.told file.now) (λ bytes. ReadsAt bytes 0 buf.old buf.new count)) }
+    ensures bound { IfOk result (λ count. count ≤ length buf.old) }
     ensures same { H.state host.new ≡ H.state host.old }
     ensures cause { HasCause DiskError.Failed (H.faults host.old) (H.faults host.new) result }
     ensures once { CountsOnce (H.faults host.old) (H.faults host.new) result }

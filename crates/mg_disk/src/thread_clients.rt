@@ -1,7 +1,7 @@
 //! A small client of two threads, proved over every host whose volumes and ports may be used in another thread.
 
-ghost use Rattle.std.specs.Prelude.{◌≡◌, IfOk, IfSome, OnOk, take};
-ghost use Rattle.mg_faults.specs.Causes.{CountsOnce, HasCause};
+ghost use Rattle.std.specs.Prelude.{◌≡◌, ◌≤◌, length, IfOk, IfSome, OnOk, take};
+ghost use Rattle.mg_faults.specs.Causes.{CountsOnce, HasCause, raised};
 
 use crate::{DiskError, Files, Host, SendFiles, SendVolume, Volume};
 use std::alloc::Global;
@@ -19,9 +19,11 @@ pub fn read_two_files<H: Host<Vol: SendVolume>, R: Threads>(
 ) -> Result<(Vec<u8>, Vec<u8>), DiskError>
     ensures first { IfOk result (λ read. IfSome (H.Vol.Port.told first.now) (λ bytes. read.0.items ≡ take most bytes)) }
     ensures second { IfOk result (λ read. IfSome (H.Vol.Port.told second.now) (λ bytes. read.1.items ≡ take most bytes)) }
+    ensures bound { IfOk result (λ read. (length read.0.items ≤ most) × (length read.1.items ≤ most)) }
     ensures same { H.state host.new ≡ H.state host.old }
     ensures cause { HasCause DiskError.Failed (H.faults host.old) (H.faults host.new) result }
     ensures good { OnOk result (H.faults host.new ≡ H.faults host.old) }
+    ensures twice { H.faults host.new ≤ raised (H.faults host.old) 2 }
 {
     let one = host.files(alloc)?;
     match host.files(alloc) {
@@ -55,6 +57,8 @@ fn read_by_two<F: SendFiles, R: Threads>(
 )
     ensures first { IfOk result.0.1 (λ read. IfSome (F.told first.now) (λ bytes. read.items ≡ take most bytes)) }
     ensures second { IfOk result.1.1 (λ read. IfSome (F.told second.now) (λ bytes. read.items ≡ take most bytes)) }
+    ensures bound_of_first { IfOk result.0.1 (λ read. length read.items ≤ most) }
+    ensures bound_of_second { IfOk result.1.1 (λ read. length read.items ≤ most) }
     ensures cause_of_first { HasCause DiskError.Failed (F.faults one) (F.faults result.0.0) result.0.1 }
     ensures cause_of_second { HasCause DiskError.Failed (F.faults two) (F.faults result.1.0) result.1.1 }
     ensures once_of_first { CountsOnce (F.faults one) (F.faults result.0.0) result.0.1 }
@@ -64,11 +68,13 @@ fn read_by_two<F: SendFiles, R: Threads>(
         rt,
         || -> (F, Result<Vec<u8>, DiskError>)
             ensures bytes { IfOk result.1 (λ read. IfSome (F.told first.entry.now) (λ bytes. read.items ≡ take most bytes)) }
+            ensures bound { IfOk result.1 (λ read. length read.items ≤ most) }
             ensures cause { HasCause DiskError.Failed (F.faults one) (F.faults result.0) result.1 }
             ensures once { CountsOnce (F.faults one) (F.faults result.0) result.1 }
         { read_front(alloc, one, first, most) },
         || -> (F, Result<Vec<u8>, DiskError>)
             ensures bytes { IfOk result.1 (λ read. IfSome (F.told second.entry.now) (λ bytes. read.items ≡ take most bytes)) }
+            ensures bound { IfOk result.1 (λ read. length read.items ≤ most) }
             ensures cause { HasCause DiskError.Failed (F.faults two) (F.faults result.0) result.1 }
             ensures once { CountsOnce (F.faults two) (F.faults result.0) result.1 }
         { read_front(alloc, two, second, most) },
@@ -83,6 +89,7 @@ fn read_front<F: Files>(
     most: usize,
 ) -> (F, Result<Vec<u8>, DiskError>)
     ensures bytes { IfOk result.1 (λ read. IfSome (F.told file.now) (λ bytes. read.items ≡ take most bytes)) }
+    ensures bound { IfOk result.1 (λ read. length read.items ≤ most) }
     ensures cause { HasCause DiskError.Failed (F.faults port) (F.faults result.0) result.1 }
     ensures once { CountsOnce (F.faults port) (F.faults result.0) result.1 }
 {
@@ -98,6 +105,7 @@ fn read_into_new<F: Files>(
     most: usize,
 ) -> Result<Vec<u8>, DiskError>
     ensures bytes { IfOk result (λ read. IfSome (F.told file.now) (λ bytes. read.items ≡ take most bytes)) }
+    ensures bound { IfOk result (λ read. length read.items ≤ most) }
     ensures cause { HasCause DiskError.Failed (F.faults port.old) (F.faults port.new) result }
     ensures once { CountsOnce (F.faults port.old) (F.faults port.new) result }
 {
