@@ -8,6 +8,7 @@ pub mod ListLaws
 pub mod LoadingLaws
 pub mod ListingLaws
 pub mod LookupLaws
+pub mod PageLaws
 pub mod RecordLaws
 pub mod RefusalLaws
 pub mod ScanLaws

@@ -137,7 +137,7 @@ handle_at kind told filed records holds number p d =
 pub no_handle : BlockHandle ℕ
 no_handle = record { first = 0; at = 0; len = 0 }
 
-blocks_many : {T S : Type 0} (kind : Kind T) (told : S → Option (List ℕ)) (filed : Filed S) (records : List T) (holds : Represents kind told filed records) → length filed.index ≡ length holds.blocks
+pub blocks_many : {T S : Type 0} (kind : Kind T) (told : S → Option (List ℕ)) (filed : Filed S) (records : List T) (holds : Represents kind told filed records) → length filed.index ≡ length holds.blocks
 blocks_many kind told filed records holds = ap length holds.index ∙ length-index_from kind 0 holds.blocks
 
 -- what is read of the block of a number
@@ -170,7 +170,7 @@ rise_behind kind (x ∷ xs) ys rise = rise_behind kind xs ys (rise_tail kind x (
 
 -- ---- a block of a file is right
 
-fills : {T : Type 0} (kind : Kind T) (before : ℕ) (block : List T) → 4096 ≤ before → block ≢ [] → Follows kind before block
+pub fills : {T : Type 0} (kind : Kind T) (before : ℕ) (block : List T) → 4096 ≤ before → block ≢ [] → Follows kind before block
 fills kind before [] over some = tt
 fills kind before (x ∷ xs) over some = omega (arith, over, some_bytes_of kind x)
 

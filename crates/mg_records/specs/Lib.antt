@@ -10,6 +10,7 @@ pub mod ItemLaws
 pub mod ItemRecord
 pub mod Lists
 pub mod Lookup
+pub mod Pages
 pub mod Reading
 pub mod Record
 pub mod Refusals

@@ -1,10 +1,11 @@
 //! A file of records.
 
-ghost use Rattle.std.specs.Prelude.{◌≡◌, ℕ, ◌+◌, ◌<◌, ◌≤◌, ◌^◌, List, length, Option, sum_by};
+ghost use Rattle.std.specs.Prelude.{◌≡◌, ℕ, ◌+◌, ◌<◌, ◌≤◌, ◌^◌, List, filter, length, nat_lt, Option, sum_by};
 ghost use Rattle.mg_indexed.specs.Index.{BeginUpTo};
 ghost use Rattle.mg_indexed.specs.NumberKeys.{number_keys};
 ghost use Rattle.mg_records.specs.File.{first_number, last_number};
 ghost use Rattle.mg_records.specs.Lookup.{IsSpan, StartsAt};
+ghost use Rattle.mg_records.specs.Pages.{records_from};
 ghost use Rattle.mg_records.specs.Writing.{Represents};
 
 use crate::block::Span;
@@ -79,8 +80,32 @@ impl<S, R: Record> RecordFile<S, R> {
         self.indexed.blocks_up_to(&number) - 1
     }
 
-    /// The block, from 0 on, in which the records above this number begin.
-    pub(crate) fn start(&self, after: u64) -> usize
+    /// How many blocks the file has.
+    pub fn blocks(&self) -> usize
+        ensures index { result ≡ length self.now.index }
+        ensures some { 1 ≤ result }
+        ensures records { (told : S → Option (List ℕ)) (records : List R) → (holds : Represents R.kind told self.now records) → result ≡ length holds.blocks }
+    {
+        self.indexed.handles().len()
+    }
+
+    /// The block, from 0 on, in which the records above this number begin, or the number of blocks where there is none.
+    pub fn start(&self, after: u64) -> usize
+        ensures within { after < self.now.footer.high → result < length self.now.index }
+        ensures starts { after < self.now.footer.high → StartsAt self.now after result }
+        ensures none { self.now.footer.high ≤ after → result ≡ length self.now.index }
+        ensures records { (told : S → Option (List ℕ)) (records : List R) → (holds : Represents R.kind told self.now records) →
+            records_from R.kind after result holds.blocks ≡ filter (λ it. nat_lt after (R.kind.seq it)) records }
+    {
+        if after < self.indexed.footer().high {
+            self.first_block(after)
+        } else {
+            self.blocks()
+        }
+    }
+
+    /// The block at which a scan above this number begins.
+    pub(crate) fn first_block(&self, after: u64) -> usize
         ensures within { result < length self.now.index }
         ensures starts { StartsAt self.now after result }
     {

@@ -8,6 +8,7 @@ mod file;
 mod item;
 pub mod laws;
 mod lookup;
+mod pages;
 mod reading;
 mod record;
 mod writer;

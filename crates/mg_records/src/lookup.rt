@@ -135,7 +135,7 @@ impl<S: Drop, R: Record> RecordFile<S, R> {
         let mut before = BLOCK_LIMIT;
         let mut last = 0;
         let mut buffer = Vec::new(alloc);
-        let start = self.start(after);
+        let start = self.first_block(after);
         for block in start..self.indexed.handles().len() {
             let span = self.span(block);
             let frame = self.read_span(alloc, port, block, &span, buffer)?;
@@ -165,7 +165,7 @@ impl<S: Drop, R: Record> RecordFile<S, R> {
     }
 
     /// The block of this number, from 0 on. One of another length than the index says is malformed.
-    fn read_span<F: Blocks<Sealed = S>>(
+    pub(crate) fn read_span<F: Blocks<Sealed = S>>(
         &self,
         alloc: Global,
         port: &mut F,

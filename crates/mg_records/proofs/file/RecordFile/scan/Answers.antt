@@ -34,12 +34,12 @@ pub loop-block-init : goal.loop-block-init
 loop-block-init g c = (
   (refl, g.met.F.Files.bounded c.args.port.now),
   λ some all holds. (
-    ap (λ xs. xs ++ filter (λ it. nat_lt c.args.after (g.R.Record.kind.seq it)) (items_of (drop c.start-start.result holds.blocks))) c.new-records.ensures.items
-        ∙ scan_starts g.R.Record.kind g.F.Files.told c.args.self.now all holds c.args.after c.start-start.result c.start-start.ensures.within c.start-start.ensures.starts,
+    ap (λ xs. xs ++ filter (λ it. nat_lt c.args.after (g.R.Record.kind.seq it)) (items_of (drop c.first_block-start.result holds.blocks))) c.new-records.ensures.items
+        ∙ scan_starts g.R.Record.kind g.F.Files.told c.args.self.now all holds c.args.after c.first_block-start.result c.first_block-start.ensures.within c.first_block-start.ensures.starts,
     inl (refl, refl),
   ),
   some_any (g.F.Files.told c.args.self.now.file.file) _
-      (λ bytes long. listed_none g.R.Record.kind bytes c.args.self.now c.args.after c.start-start.result c.new-records.result.items 4096 0 c.new-records.ensures.items refl),
+      (λ bytes long. listed_none g.R.Record.kind bytes c.args.self.now c.args.after c.first_block-start.result c.new-records.result.items 4096 0 c.new-records.ensures.items refl),
 )
 
 pub returns-in_err-frame-clause-scanned : goal.returns-in_err-frame-clause-scanned
@@ -55,7 +55,7 @@ returns-in_err-frame-clause-causes g c =
     let block = c.loop-block.block in
     let before = c.loop-block.before in
     let fault = c.in_err-frame.field-0.0 in
-    let were = listed_before kind told filed after c.start-start.result block c.loop-block.records.items before c.loop-block.last c.start-start.ensures.starts c.loop-block.invariant.2 in
+    let were = listed_before kind told filed after c.first_block-start.result block c.loop-block.records.items before c.loop-block.last c.first_block-start.ensures.starts c.loop-block.invariant.2 in
     err_is c.from_residual.result fault (λ fault. IfSome told (λ bytes. filed.file.len ≡ length bytes → IsOutside fault ⊎ IsScanRefused kind bytes filed after fault)) (grind (arith, common_steps))
     (scan_refused kind told filed after before fault
     (frame_refused told filed.file.len filed block c.span-span.result (IsBodyRefused kind before) (WasListed kind filed after before) fault c.span-span.ensures.is_span were c.in_err-frame.ensures.told))
@@ -77,7 +77,7 @@ returns-in_err-last-clause-scanned g c = λ some records holds.
     let b = c.in_ok-frame.ensures.read some records holds in
     let here : IsBlock kind holds.blocks block body = record { before = b.before; block = b.block; later = b.later; all = b.all; many = b.many; spelling = c.body.ensures ∙ b.spelling } in
     let right = right_block kind g.F.Files.told c.args.self.now records holds block span body c.span-span.ensures.is_span here in
-    let follows = follows_behind kind holds.blocks c.start-start.result block before c.loop-block.last body holds.are.filled (c.loop-block.invariant.1 some records holds).1 here in
+    let follows = follows_behind kind holds.blocks c.first_block-start.result block before c.loop-block.last body holds.are.filled (c.loop-block.invariant.1 some records holds).1 here in
     let fault = c.in_err-last.field-0.0 in
     outside_answer c.from_residual-in_err-last.result fault _ (grind (arith, common_steps))
     (elim c.in_err-last.ensures.refusals [
@@ -94,7 +94,7 @@ returns-in_err-last-clause-causes g c =
     let block = c.loop-block.block in
     let before = c.loop-block.before in
     let fault = c.in_err-last.field-0.0 in
-    let were = listed_before kind told filed after c.start-start.result block c.loop-block.records.items before c.loop-block.last c.start-start.ensures.starts c.loop-block.invariant.2 in
+    let were = listed_before kind told filed after c.first_block-start.result block c.loop-block.records.items before c.loop-block.last c.first_block-start.ensures.starts c.loop-block.invariant.2 in
     err_is c.from_residual-in_err-last.result fault (λ fault. IfSome told (λ bytes. filed.file.len ≡ length bytes → IsOutside fault ⊎ IsScanRefused kind bytes filed after fault)) (grind (arith, common_steps))
     (scan_refused kind told filed after before fault
     (body_refused told filed.file.len filed block c.span-span.result c.in_ok-frame.frame c.body.result.now (IsBodyRefused kind before) (WasListed kind filed after before) fault c.span-span.ensures.is_span c.body.ensures
@@ -136,8 +136,8 @@ loop-block-preserved g c = (
       let told = g.F.Files.told filed.file.file in
       let block = c.loop-block.block in
       let same : length c.body.result.now ≡ length c.body-before.result.now = ap length (c.body.ensures ∙ sym c.body-before.ensures) in
-      subst (λ (n : ℕ). IfSome told (λ bytes. filed.file.len ≡ length bytes → IsListedUpTo g.R.Record.kind bytes filed c.args.after c.start-start.result (block + 1) c.scan_block.new.records.items n c.in_ok-last.last)) same
-      (listed_on g.R.Record.kind told filed c.args.after c.start-start.result block c.span-span.result c.in_ok-frame.frame c.body.result.now c.loop-block.records.items c.scan_block.new.records.items
+      subst (λ (n : ℕ). IfSome told (λ bytes. filed.file.len ≡ length bytes → IsListedUpTo g.R.Record.kind bytes filed c.args.after c.first_block-start.result (block + 1) c.scan_block.new.records.items n c.in_ok-last.last)) same
+      (listed_on g.R.Record.kind told filed c.args.after c.first_block-start.result block c.span-span.result c.in_ok-frame.frame c.body.result.now c.loop-block.records.items c.scan_block.new.records.items
       c.loop-block.before c.loop-block.last c.in_ok-last.last c.span-span.ensures.is_span c.body.ensures c.in_ok-last.ensures.scanned c.in_ok-frame.ensures.len c.in_ok-frame.ensures.stands c.loop-block.invariant.2),
 )
 
@@ -151,7 +151,7 @@ returns-in_err-check_totals-clause-scanned g c = λ some records holds.
     let past : length holds.blocks ≤ block = omega (arith, ends, ap length holds.index, length-index_from kind 0 holds.blocks) in
     let h = c.loop-block.invariant.1 some records holds in
     let found = scan_ends kind holds.blocks after block records c.loop-block.records.items past h.0 in
-    let totals = right_totals kind g.F.Files.told filed records holds after c.start-start.result block c.loop-block.records.items c.loop-block.before c.loop-block.last c.start-start.ensures.within ends found h.1 in
+    let totals = right_totals kind g.F.Files.told filed records holds after c.first_block-start.result block c.loop-block.records.items c.loop-block.before c.loop-block.last c.first_block-start.ensures.within ends found h.1 in
     let kept = subst (λ (f : Filed g.row.S.Denot). IsKept g.R.BlockItem.form f.footer f.index) c.self.view_is c.self.invariant in
     let counted : c.len-count.result ≡ length c.loop-block.records.items = grind (arith, common_steps) in
     let summed = c.sum_of_sizes-sum.ensures ∙ ap (λ xs. min (sum_by kind.size xs) (2 ^ 64 - 1)) c.deref.ensures.value in
@@ -171,7 +171,7 @@ returns-in_err-check_totals-clause-causes g c =
     let summed = c.sum_of_sizes-sum.ensures ∙ ap (λ xs. min (sum_by kind.size xs) (2 ^ 64 - 1)) c.deref.ensures.value in
     let none : AreTotals kind filed after c.loop-block.last c.loop-block.records.items → ⊥ = λ totals. c.in_err-check_totals.ensures.refusals.1 (totals_of kind filed after c.loop-block.last _ _ c.loop-block.records.items kept.whole.is_footer.sum counted summed totals) in
     err_is c.from_residual-in_err-check_totals.result fault (λ fault. IfSome told (λ bytes. filed.file.len ≡ length bytes → IsOutside fault ⊎ IsScanRefused kind bytes filed after fault)) (grind (arith, common_steps))
-    (totals_refused kind g.R.BlockItem.form told filed after c.start-start.result block c.loop-block.records.items c.loop-block.before c.loop-block.last fault kept c.start-start.ensures.within ends c.start-start.ensures.starts
+    (totals_refused kind g.R.BlockItem.form told filed after c.first_block-start.result block c.loop-block.records.items c.loop-block.before c.loop-block.last fault kept c.first_block-start.ensures.within ends c.first_block-start.ensures.starts
     c.in_err-check_totals.ensures.refusals.0 none c.loop-block.invariant.2)
 
 pub returns-clause-scanned : goal.returns-clause-scanned
@@ -188,8 +188,8 @@ returns-clause-read g c = λ below.
     let filed = c.args.self.now in
     let block = c.loop-block.block in
     let ends : block ≡ length filed.index = grind (arith, common_steps) in
-    listed_all g.R.Record.kind (g.F.Files.told filed.file.file) filed c.args.after c.start-start.result block c.loop-block.records.items c.loop-block.before c.loop-block.last c.start-start.ensures.within ends
-    c.start-start.ensures.starts c.in_ok-check_totals.ensures.told.0 c.loop-block.invariant.2
+    listed_all g.R.Record.kind (g.F.Files.told filed.file.file) filed c.args.after c.first_block-start.result block c.loop-block.records.items c.loop-block.before c.loop-block.last c.first_block-start.ensures.within ends
+    c.first_block-start.ensures.starts c.in_ok-check_totals.ensures.told.0 c.loop-block.invariant.2
 
 pub returns-clause-whole : goal.returns-clause-whole
 returns-clause-whole g c = λ below.
@@ -204,5 +204,5 @@ returns-clause-whole g c = λ below.
     let summed = c.sum_of_sizes-sum.ensures ∙ ap (λ xs. min (sum_by kind.size xs) (2 ^ 64 - 1)) c.deref.ensures.value in
     let totals = totals_are kind filed after c.loop-block.last _ _ c.loop-block.records.items kept.whole.is_footer.sum counted summed c.in_ok-check_totals.ensures.told in
     whole_scan kind g.R.BlockItem.form told filed after c.loop-block.last c.loop-block.records.items kept below totals
-    (listed_all kind told filed after c.start-start.result block c.loop-block.records.items c.loop-block.before c.loop-block.last c.start-start.ensures.within ends
-    c.start-start.ensures.starts totals.0 c.loop-block.invariant.2)
+    (listed_all kind told filed after c.first_block-start.result block c.loop-block.records.items c.loop-block.before c.loop-block.last c.first_block-start.ensures.within ends
+    c.first_block-start.ensures.starts totals.0 c.loop-block.invariant.2)
