@@ -1,0 +1,4 @@
+pub mod Files
+pub mod Holding
+pub mod Jobs
+pub mod Made
