@@ -166,16 +166,18 @@ pub record IsListed {T S : Type 0} (kind : Kind T) (bytes : List ℕ) (filed : F
   pub found_are : found ≡ filter (λ it. nat_lt after (kind.seq it)) (items_of blocks)
   pub last : last_number kind (items_of blocks) ≡ filed.footer.high
 
--- what a search for a number that is not below the first one answers: what is found in the last block that begins at most at it
-pub record IsGot {T S : Type 0} (kind : Kind T) (bytes : List ℕ) (filed : Filed S) (number : ℕ) (found : Option T) : Type 0 where
+-- The body is that of the block in which a number is sought that is not below the first one: of the last block that begins at most at it.
+pub record IsSoughtBody {S : Type 0} (bytes : List ℕ) (filed : Filed S) (number : ℕ) (body : List ℕ) : Type 0 where
   pub block : ℕ
   pub point : BeginUpTo number_keys filed.index number (block + 1)
   pub span : Span
   pub is_span : IsSpan filed block span
-  pub body : List ℕ
   pub long : length body + 20 ≡ span.len
   pub stands : StandsAt bytes span.at (block, body)
-  pub is_found : IsFoundIn kind number span body found
+
+-- what a search for a number that is not below the first one answers: what is found in the block in which it is sought
+abbrev pub IsGot : {T S : Type 0} → Kind T → List ℕ → Filed S → ℕ → Option T → Type 0
+IsGot {T} kind bytes filed number found = (body : List ℕ) × (sought : IsSoughtBody bytes filed number body) × IsFoundIn kind number sought.span body found
 
 -- ---- refusals
 
@@ -195,6 +197,10 @@ pub record IsBlockRefused {S : Type 0} (bytes : List ℕ) (filed : Filed S) (P :
 -- what is wrong with the block in which a number is sought
 abbrev pub IsSoughtRefused : {T S : Type 0} → Kind T → List ℕ → Filed S → ℕ → Fault → Type 0
 IsSoughtRefused kind bytes filed number fault = (refused : IsBlockRefused bytes filed (IsUnfitFor kind number) fault) × BeginUpTo number_keys filed.index number (refused.number + 1)
+
+-- what is wrong with the frame of the block in which a number is sought
+abbrev pub IsSoughtDamaged : {S : Type 0} → List ℕ → Filed S → ℕ → Fault → Type 0
+IsSoughtDamaged bytes filed number fault = (refused : IsBlockRefused bytes filed (λ span body fault. ⊥) fault) × BeginUpTo number_keys filed.index number (refused.number + 1)
 
 -- the blocks before this one, from where a scan begins on, are these
 abbrev pub WereListed : {T S : Type 0} → Kind T → List ℕ → Filed S → ℕ → ℕ → List (List T) → Type 0

@@ -1,12 +1,12 @@
 //! Records of a file are found by their numbers.
 
-ghost use Rattle.std.specs.Prelude.{◌≡◌, ◌+◌, ◌-◌, ◌<◌, ◌≤◌, ◌≢◌, ◌⊎◌, List, [], length, sum_by, min, ◌^◌, false, filter, nat_lt, IfErr, IfOk, IfSome, IsOkAnd, IsSome, MatchResult, Ok, None};
+ghost use Rattle.std.specs.Prelude.{◌≡◌, ◌+◌, ◌-◌, ◌<◌, ◌≤◌, ◌≢◌, ◌⊎◌, List, [], length, sum_by, min, ◌^◌, false, filter, nat_lt, IfErr, IfOk, IfSome, IsOkAnd, IsSome, IsSomeAnd, MatchResult, Ok, None};
 ghost use Rattle.mg_faults.specs.Causes.{CountsOnce, HasCause};
 ghost use Rattle.mg_frame.specs.Frame.{StandsAt};
 ghost use Rattle.mg_indexed.specs.Footer.{footer_size};
 ghost use Rattle.mg_records.specs.BlockFor.{IsBlockFor};
 ghost use Rattle.mg_records.specs.File.{IsFile, record_of};
-ghost use Rattle.mg_records.specs.Lookup.{IsBlock, IsBlockFault, IsGot, IsListed, IsScanRefused, IsSoughtRefused, IsSpan, HasTotals};
+ghost use Rattle.mg_records.specs.Lookup.{IsBlock, IsBlockFault, IsGot, IsListed, IsScanRefused, IsSoughtBody, IsSoughtDamaged, IsSoughtRefused, IsSpan, HasTotals};
 ghost use Rattle.mg_records.specs.Reading.{IsRead};
 ghost use Rattle.mg_records.specs.Writing.{Represents};
 ghost use Rattle.mg_records.specs.declared.block.Span.{Span};
@@ -90,6 +90,10 @@ impl<S: Drop, R: Record> RecordFile<S, R> {
         ensures found { IsSome (F.Files.told self.now.file.file) → (records : List R) → Represents R.kind F.Files.told self.now records →
             MatchResult result (λ found. IsBlockFor R.kind number records found) (λ fault. IsOutside fault) }
         ensures unread { (number < self.now.footer.low) ⊎ (self.now.footer.high < number) → (port.new ≡ port.old) × (result ≡ Ok None) }
+        ensures read { self.now.footer.low ≤ number → number ≤ self.now.footer.high →
+            IfOk result (λ found. IsSomeAnd found (λ body. IfSome (F.Files.told self.now.file.file) (λ bytes. self.now.file.len ≡ length bytes → IsSoughtBody bytes self.now number body))) }
+        ensures causes { IfErr result (λ fault. IfSome (F.Files.told self.now.file.file) (λ bytes. self.now.file.len ≡ length bytes →
+            IsOutside fault ⊎ IsSoughtDamaged bytes self.now number fault)) }
         ensures refusals { IfErr result (λ fault. IsOutside fault ⊎ IsBlockFault self.now.file.id self.now.index fault) }
         ensures cause { HasCause Fault.ReadFault (F.Files.faults port.old) (F.Files.faults port.new) result }
         ensures once { CountsOnce (F.Files.faults port.old) (F.Files.faults port.new) result }

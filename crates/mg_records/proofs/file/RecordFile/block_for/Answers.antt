@@ -1,12 +1,15 @@
-use Rattle.std.proofs.Common.{◌≡◌, ◌+◌, ◌<◌, ◌∙◌, sym, ap, subst, arith}
+use Rattle.std.proofs.Common.{◌≡◌, ◌+◌, ◌<◌, ◌∙◌, ◌⊎◌, length, IfSome, sym, ap, subst, arith}
 use Rattle.std.proofs.lemmas.Grind.{common_steps}
+use Rattle.mg_sealed.specs.Answers.{IsOutside}
 use Rattle.mg_sealed.specs.Filling.{items_of}
+use Rattle.mg_sealed.proofs.AnswerLaws.{err_is, some_any}
 use Rattle.mg_indexed.specs.Index.{BeginUpTo}
 use Rattle.mg_indexed.specs.NumberKeys.{number_keys}
 use Rattle.mg_records.specs.File.{first_number, last_number, record_of}
+use Rattle.mg_records.specs.Lookup.{IsSoughtDamaged}
 use Rattle.mg_records.specs.Writing.{Filed}
 use Rattle.mg_indexed.specs.declared.footer.Footer.{Footer}
-use Rattle.mg_records.proofs.LookupLaws.{found_in, no_handle, none_above_last, none_below_first, outside_answer}
+use Rattle.mg_records.proofs.LookupLaws.{found_in, frame_refused, no_handle, none_above_last, none_below_first, outside_answer}
 use Rattle.mg_records.proofs.file.RecordFile.block_for.Goals as goal
 use Rattle.mg_records.proofs.file.RecordFile.block_for.Goals.{then-number-footer-via-then-number-footer, then-number-footer-via-else-number-footer+then-number-footer-2}
 
@@ -39,3 +42,14 @@ returns-clause-found g c = λ some records holds.
     let same : record_of kind number b.block ≡ record_of kind number records =
     sym (found_in kind blocks holds.are number (block + 1) no_handle b.before b.block b.later point b.all (omega (arith, b.many))) ∙ ap (record_of kind number) holds.all in
     (b.block, b.spelling, same)
+
+pub returns-in_err-frame-clause-causes : goal.returns-in_err-frame-clause-causes
+returns-in_err-frame-clause-causes g c =
+    let number = c.args.number in
+    let filed = c.args.self.now in
+    let told = g.F.Files.told filed.file.file in
+    let block = c.block_of-block.result in
+    let fault = c.in_err-frame.field-0.0 in
+    let sought = some_any told (λ bytes. filed.file.len ≡ length bytes → BeginUpTo number_keys filed.index number (block + 1)) (λ bytes same. c.block_of-block.ensures.point) in
+    err_is c.from_residual.result fault (λ fault. IfSome told (λ bytes. filed.file.len ≡ length bytes → IsOutside fault ⊎ IsSoughtDamaged bytes filed number fault)) (grind (arith, common_steps))
+    (frame_refused told filed.file.len filed block c.span-span.result (λ span body fault. ⊥) (λ bytes n. BeginUpTo number_keys filed.index number (n + 1)) fault c.span-span.ensures.is_span sought c.in_err-frame.ensures.told)

@@ -1,12 +1,13 @@
-use Rattle.std.proofs.Common.{◌≡◌, ◌+◌, ◌<◌, ◌∙◌, ◌⊎◌, length, IfSome, inl, inr, sym, ap, subst, arith}
+use Rattle.std.proofs.Common.{◌≡◌, ◌+◌, ◌<◌, ◌∙◌, ◌⊎◌, List, ℕ, length, IfSome, inl, inr, sym, ap, subst, arith}
 use Rattle.std.proofs.lemmas.Grind.{common_steps}
 use Rattle.mg_sealed.specs.Filling.{items_of}
+use Rattle.mg_frame.specs.Frame.{StandsAt}
 use Rattle.mg_types.specs.declared.faults.Fault.TheVariants.{NoMemory}
 use Rattle.mg_sealed.specs.Answers.{IsOutside}
-use Rattle.mg_sealed.proofs.AnswerLaws.{err_is, err_then, some_any}
+use Rattle.mg_sealed.proofs.AnswerLaws.{err_is, err_then, ok_then, some_any, some_then}
 use Rattle.mg_indexed.specs.Index.{BeginUpTo}
 use Rattle.mg_indexed.specs.NumberKeys.{number_keys}
-use Rattle.mg_records.specs.Lookup.{IsBlock, IsBlockFault, IsFoundIn, IsSoughtRefused, IsUnfitFor}
+use Rattle.mg_records.specs.Lookup.{IsBlock, IsBlockFault, IsFoundIn, IsGot, IsSoughtRefused, IsUnfitFor}
 use Rattle.mg_records.specs.File.{first_number, last_number, record_of}
 use Rattle.mg_records.specs.Writing.{Filed}
 use Rattle.mg_indexed.specs.declared.footer.Footer.{Footer}
@@ -65,6 +66,24 @@ returns-clause-found g c = λ some records holds.
     (λ found there. found_right kind lawful number span body b.block found right.0.fit right.0.spelling there ∙ same)
     (λ f unfit. no_unfit_for kind lawful number span body b.block f right.0 right.1 unfit)
     c.find_in_block-found.ensures.found c.find_in_block-found.ensures.refusals
+
+pub returns-clause-read : goal.returns-clause-read
+returns-clause-read g c = λ over under.
+    let kind = g.R.Record.kind in
+    let number = c.args.number in
+    let filed = c.args.self.now in
+    let told = g.F.Files.told filed.file.file in
+    let block = c.block_of-block.result in
+    let span = c.span-span.result in
+    let frame = c.in_ok-frame.frame in
+    ok_then c.find_in_block-found.result (λ found. IsFoundIn kind number span c.body.result.now found) (λ found. IfSome told (λ bytes. filed.file.len ≡ length bytes → IsGot kind bytes filed number found))
+    (λ found there. some_then told (λ bytes. filed.file.len ≡ length bytes → StandsAt bytes span.at (block, frame)) (λ bytes. filed.file.len ≡ length bytes → IsGot kind bytes filed number found)
+    (λ bytes h same. (
+      frame,
+      record { block = block; point = c.block_of-block.ensures.point; span = span; is_span = c.span-span.ensures.is_span; long = c.in_ok-frame.ensures.len; stands = h same },
+      subst (λ (b : List ℕ). IsFoundIn kind number span b found) c.body.ensures there,
+    )) c.in_ok-frame.ensures.stands)
+    c.find_in_block-found.ensures.found
 
 pub returns-clause-causes : goal.returns-clause-causes
 returns-clause-causes g c =
