@@ -1,0 +1,4 @@
+pub mod FlawLaws
+pub mod ListLaws
+pub mod ReadingLaws
+pub mod SpellingLaws
