@@ -1,6 +1,6 @@
 -- Files that a flush, a merge and a cleaning made, in a layout of files.
 use Rattle.std.specs.Prelude.{nat_lt}
-use Rattle.std.proofs.Common.{◌≡◌, ℕ, ◌+◌, ◌<◌, ◌≤◌, List, [], ◌∷◌, ◌++◌, take, length, Option, Some, None, refl, sym, ap, ◌∙◌, subst, arith, inl, inr}
+use Rattle.std.proofs.Common.{◌≡◌, ℕ, ◌<◌, ◌≤◌, List, [], ◌∷◌, ◌++◌, take, length, Option, Some, None, refl, sym, ap, ◌∙◌, subst, arith, inl, inr}
 use Rattle.std.specs.List.{AllZip, flat_map}
 use Rattle.std.specs.Option.{option_to_list}
 use Rattle.std.proofs.lemmas.List.Concat.{flat_map-append}
@@ -11,7 +11,7 @@ use Rattle.mg_core.proofs.FlushLemmas.{flush_stands}
 use Rattle.mg_core.proofs.ItemLemmas.{live_rises}
 use Rattle.mg_core.proofs.ListLemmas.{from_append, has_left, has_right, rises_filter, same_rising, times_append}
 use Rattle.mg_core.proofs.MergeLemmas.{merge_stands}
-use Rattle.mg_core.specs.Layouts.{Layout, Run, Stands}
+use Rattle.mg_core.specs.Layouts.{Layout, Stands}
 use Rattle.mg_core.specs.Lists.{Has, RisesBy, SameMembers, times}
 use Rattle.mg_core.specs.Results.{Divides, IsFlushOf, fresh, unless_empty, with_clean, with_flush, with_merge}
 use Rattle.mg_model.specs.Mutations.{Mutations, live}

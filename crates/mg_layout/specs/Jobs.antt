@@ -1,7 +1,14 @@
 -- What contracts see of the work of flushes, merges and cleanings, and of what they made.
 use Rattle.std.specs.Prelude.{ℕ, List, Option}
+use Rattle.mg_mem.specs.Memtable.{FrozenMemtable}
 use Rattle.mg_records.specs.Writing.{Filed}
 use Rattle.mg_layout.specs.Files.{RunFile}
+
+-- a memtable to be flushed: its partition, and the first of the two file numbers that the flush may take
+pub record FlushWork : Type 0 where
+  pub part : ℕ
+  pub memtable : FrozenMemtable
+  pub first : ℕ
 
 -- runs to be merged, the newest first: their partition, and the first of the two file numbers that the merge may take
 pub record MergeWork (S : Type 0) : Type 0 where
@@ -16,6 +23,12 @@ pub record CleanWork (S : Type 0) : Type 0 where
   pub segments : List (Filed S)
   pub deletes : List (Filed S)
   pub first : ℕ
+
+-- what a flush took and made
+pub record FlushFiles (S : Type 0) : Type 0 where
+  pub work : FlushWork
+  pub run : RunFile S
+  pub segment : Filed S
 
 -- what a merge took and made; there is no delete list where no entry was replaced
 pub record MergeFiles (S : Type 0) : Type 0 where

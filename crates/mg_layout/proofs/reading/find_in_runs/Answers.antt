@@ -1,4 +1,4 @@
-use Rattle.std.proofs.Common.{◌≡◌, ◌+◌, ◌<◌, ◌⊎◌, ◌∙◌, inl, inr, ℕ, List, length, drop, Option, None, Ok, Err, refl, sym, ap, subst, arith}
+use Rattle.std.proofs.Common.{◌≡◌, ◌+◌, ◌⊎◌, ◌∙◌, inl, inr, drop, None, Ok, sym, ap, subst, arith}
 use Rattle.std.specs.Option.{is_some}
 use Rattle.std.specs.Prelude.{Any, true}
 use Rattle.std.proofs.lemmas.Grind.{common_steps}

@@ -1,8 +1,8 @@
-use Rattle.std.proofs.Common.{◌≡◌, ◌+◌, ◌<◌, ◌≤◌, ◌⊎◌, ◌∙◌, inl, inr, ℕ, List, length, get_or, drop, map, Option, None, Ok, Err, refl, sym, ap, subst, arith}
+use Rattle.std.proofs.Common.{◌≡◌, ◌+◌, ◌<◌, ◌≤◌, ◌⊎◌, ◌∙◌, inl, inr, length, get_or, drop, map, None, Ok, sym, ap, subst, arith}
 use Rattle.std.specs.Arc.{arc_value}
 use Rattle.std.specs.List.{find}
 use Rattle.std.specs.Option.{is_some}
-use Rattle.std.specs.Prelude.{All, Any, true, false}
+use Rattle.std.specs.Prelude.{Any, true}
 use Rattle.std.proofs.lemmas.Grind.{common_steps}
 use Rattle.std.proofs.lemmas.List.{get_or-map, length-map}
 use Rattle.std.proofs.lemmas.List.Elements.{All-get_or}
@@ -10,8 +10,7 @@ use Rattle.mg_core.specs.Layouts.{records_of}
 use Rattle.mg_records.specs.Lookup.{IsBlockFault}
 use Rattle.mg_records.specs.Writing.{Filed}
 use Rattle.mg_sealed.specs.Answers.{IsOutside}
-use Rattle.mg_sealed.proofs.AnswerLaws.{err_is, ok_same, outside}
-use Rattle.mg_types.specs.declared.items.Item.{Item}
+use Rattle.mg_sealed.proofs.AnswerLaws.{err_is, outside}
 use Rattle.mg_layout.proofs.SeekLaws.{has_number, none_is, or_is, record_behind, record_from, segment_gives, segment_outside}
 use Rattle.mg_layout.proofs.reading.item_in_segments.Goals as goal
 
