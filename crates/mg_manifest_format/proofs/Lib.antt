@@ -1,4 +1,5 @@
 pub mod FlawLaws
+pub mod LengthLaws
 pub mod ListLaws
 pub mod ReadingLaws
 pub mod SpellingLaws

@@ -24,20 +24,20 @@ one_listed s one [] (y ∷ ys) rest more long fits fits' same = absurd (omega (a
 one_listed s one (x ∷ xs) [] rest more long fits fits' same = absurd (omega (arith, long))
 one_listed s one (x ∷ xs) (y ∷ ys) rest more long fits fits' same =
     let first = one x y (listed s xs ++ rest) (listed s ys ++ more) fits.0 fits'.0
-        (sym (append_assoc (s.bytes x) (listed s xs) rest) ∙ same ∙ append_assoc (s.bytes y) (listed s ys) more) in
+    (sym (append_assoc (s.bytes x) (listed s xs) rest) ∙ same ∙ append_assoc (s.bytes y) (listed s ys) more) in
     let others = one_listed s one xs ys rest more (omega (arith, long)) fits.1 fits'.1 first.1 in
     (λ k. first.0 k ∷ others.0 k, others.1)
 
 one_counted : {X : Type 0} (width : ℕ) (s : Spelling X) → HasOneSpelling s → HasOneSpelling (counted_list width s)
 one_counted width s one xs ys rest more fits fits' same =
     let count = one_number width (length xs) (length ys) (listed s xs ++ rest) (listed s ys ++ more) fits.0 fits'.0
-        (sym (append_assoc (big_endian width (length xs)) (listed s xs) rest) ∙ same ∙ append_assoc (big_endian width (length ys)) (listed s ys) more) in
+    (sym (append_assoc (big_endian width (length xs)) (listed s xs) rest) ∙ same ∙ append_assoc (big_endian width (length ys)) (listed s ys) more) in
     one_listed s one xs ys rest more count.0 fits.1 fits'.1 count.1
 
 one_file : HasOneSpelling file_spelling
 one_file x y rest more fits fits' same =
     let number = one_u64 x.number y.number (big_endian 8 x.len ++ rest) (big_endian 8 y.len ++ more) fits.0 fits'.0
-        (sym (append_assoc (big_endian 8 x.number) (big_endian 8 x.len) rest) ∙ same ∙ append_assoc (big_endian 8 y.number) (big_endian 8 y.len) more) in
+    (sym (append_assoc (big_endian 8 x.number) (big_endian 8 x.len) rest) ∙ same ∙ append_assoc (big_endian 8 y.number) (big_endian 8 y.len) more) in
     let len = one_u64 x.len y.len rest more fits.1 fits'.1 number.1 in
     let file : x ≡ y = λ k. record { number = number.0 k; len = len.0 k } in
     (file, len.1)
@@ -47,7 +47,7 @@ one_run x y rest more fits fits' same =
     let files = (counted_list 2 file_spelling).bytes x.files in
     let files' = (counted_list 2 file_spelling).bytes y.files in
     let lo = one_u64 x.lo y.lo (big_endian 8 x.hi ++ (files ++ rest)) (big_endian 8 y.hi ++ (files' ++ more)) fits.0 fits'.0
-        (sym (three_behind (big_endian 8 x.lo) (big_endian 8 x.hi) files rest) ∙ same ∙ three_behind (big_endian 8 y.lo) (big_endian 8 y.hi) files' more) in
+    (sym (three_behind (big_endian 8 x.lo) (big_endian 8 x.hi) files rest) ∙ same ∙ three_behind (big_endian 8 y.lo) (big_endian 8 y.hi) files' more) in
     let hi = one_u64 x.hi y.hi (files ++ rest) (files' ++ more) fits.1 fits'.1 lo.1 in
     let last = one_counted 2 file_spelling one_file x.files y.files rest more fits.2 fits'.2 hi.1 in
     let run : x ≡ y = λ k. record { lo = lo.0 k; hi = hi.0 k; files = last.0 k } in
@@ -62,7 +62,7 @@ one_layout x y rest more fits fits' same =
     let deletes = (counted_list 4 file_spelling).bytes x.deletes in
     let deletes' = (counted_list 4 file_spelling).bytes y.deletes in
     let first = one_counted 2 run_spelling one_run x.runs y.runs (segments ++ (deletes ++ rest)) (segments' ++ (deletes' ++ more)) fits.0 fits'.0
-        (sym (three_behind runs segments deletes rest) ∙ same ∙ three_behind runs' segments' deletes' more) in
+    (sym (three_behind runs segments deletes rest) ∙ same ∙ three_behind runs' segments' deletes' more) in
     let second = one_counted 4 file_spelling one_file x.segments y.segments (deletes ++ rest) (deletes' ++ more) fits.1 fits'.1 first.1 in
     let third = one_counted 4 file_spelling one_file x.deletes y.deletes rest more fits.2 fits'.2 second.1 in
     (same_layout x y first.0 second.0 third.0, third.1)
@@ -72,7 +72,7 @@ one_mark x y rest more fits fits' same =
     let layout = layout_spelling.bytes x.layout in
     let layout' = layout_spelling.bytes y.layout in
     let mark = one_u64 x.mark y.mark (layout ++ rest) (layout' ++ more) fits.0 fits'.0
-        (sym (append_assoc (big_endian 8 x.mark) layout rest) ∙ same ∙ append_assoc (big_endian 8 y.mark) layout' more) in
+    (sym (append_assoc (big_endian 8 x.mark) layout rest) ∙ same ∙ append_assoc (big_endian 8 y.mark) layout' more) in
     let last = one_layout x.layout y.layout rest more fits.1 fits'.1 mark.1 in
     (same_mark x y mark.0 last.0, last.1)
 

@@ -26,7 +26,10 @@ pub(crate) fn put_items<T: Spelled>(items: &[T], out: &mut Vec<u8>) -> Result<()
 }
 
 /// Appends the values after their number in two bytes.
-pub(crate) fn put_items_u16<T: Spelled>(items: &Items<T>, out: &mut Vec<u8>) -> Result<(), AllocError>
+pub(crate) fn put_items_u16<T: Spelled>(
+    items: &Items<T>,
+    out: &mut Vec<u8>,
+) -> Result<(), AllocError>
     requires { (counted_list 2 T.spelling).fits items.now }
     ensures ok { OnOk result (out.new.items ≡ out.old.items ++ (counted_list 2 T.spelling).bytes items.now) }
     ensures front { take (length out.old.items) out.new.items ≡ out.old.items }
@@ -36,13 +39,29 @@ pub(crate) fn put_items_u16<T: Spelled>(items: &Items<T>, out: &mut Vec<u8>) -> 
 }
 
 /// Appends the values after their number in four bytes.
-pub(crate) fn put_items_u32<T: Spelled>(items: &Items<T>, out: &mut Vec<u8>) -> Result<(), AllocError>
+pub(crate) fn put_items_u32<T: Spelled>(
+    items: &Items<T>,
+    out: &mut Vec<u8>,
+) -> Result<(), AllocError>
     requires { (counted_list 4 T.spelling).fits items.now }
     ensures ok { OnOk result (out.new.items ≡ out.old.items ++ (counted_list 4 T.spelling).bytes items.now) }
     ensures front { take (length out.old.items) out.new.items ≡ out.old.items }
 {
     put_u32(items.len() as u32, out)?;
     put_items(items.as_slice(), out)
+}
+
+/// How many bytes the spellings of the values have together.
+pub(crate) fn items_len<T: Spelled>(items: &[T]) -> usize
+    requires fits { AllByRecursion T.spelling.fits items.now }
+    requires bound { length (listed T.spelling items.now) < 2 ^ 62 }
+    ensures { result ≡ length (listed T.spelling items.now) }
+{
+    let mut len = 0;
+    for item in items {
+        len += item.spelled_len();
+    }
+    len
 }
 
 /// So many values at the front, and what follows them. The bytes bound the memory, whatever the count says.

@@ -4,7 +4,7 @@ ghost use Rattle.std.specs.Prelude.{◌≡◌, ◌++◌, length, take, IfOk, OnO
 ghost use Rattle.mg_manifest_format.specs.Manifests.{layout_spelling};
 ghost use Rattle.mg_manifest_format.specs.Spelling.{IsSplit};
 
-use crate::items::{put_items_u16, put_items_u32, split_items_u16, split_items_u32};
+use crate::items::{items_len, put_items_u16, put_items_u32, split_items_u16, split_items_u32};
 use crate::spelled::Spelled;
 use mg_frame::{put_u64, split_u64};
 use mg_items::Items;
@@ -46,6 +46,11 @@ impl Spelled for NamedFile {
         put_u64(self.len, out)
     }
 
+    #[tactic(auto, using(crate::proofs::LengthLaws::file_len))]
+    fn spelled_len(&self) -> usize {
+        self.number.to_be_bytes().len() + self.len.to_be_bytes().len()
+    }
+
     fn split(_alloc: Global, bytes: &[u8]) -> Result<Option<(NamedFile, &[u8])>, Fault> {
         let Some((number, rest)) = split_u64(bytes) else {
             return Ok(None);
@@ -66,6 +71,11 @@ impl Spelled for RunNames {
         put_u64(self.lo, out)?;
         put_u64(self.hi, out)?;
         put_items_u16(&self.files, out)
+    }
+
+    #[tactic(auto, using(crate::proofs::LengthLaws::run_len, crate::proofs::LengthLaws::run_files_most))]
+    fn spelled_len(&self) -> usize {
+        18 + items_len(self.files.as_slice())
     }
 
     fn split(alloc: Global, bytes: &[u8]) -> Result<Option<(RunNames, &[u8])>, Fault> {
@@ -91,6 +101,14 @@ impl Spelled for LayoutNames {
         put_items_u16(&self.runs, out)?;
         put_items_u32(&self.segments, out)?;
         put_items_u32(&self.deletes, out)
+    }
+
+    #[tactic(auto, using(crate::proofs::LengthLaws::layout_len, crate::proofs::LengthLaws::layout_runs_most, crate::proofs::LengthLaws::layout_segments_most, crate::proofs::LengthLaws::layout_deletes_most))]
+    fn spelled_len(&self) -> usize {
+        let runs = items_len(self.runs.as_slice());
+        let segments = items_len(self.segments.as_slice());
+        let deletes = items_len(self.deletes.as_slice());
+        10 + runs + segments + deletes
     }
 
     fn split(alloc: Global, bytes: &[u8]) -> Result<Option<(LayoutNames, &[u8])>, Fault> {

@@ -17,4 +17,4 @@ mod spelled;
 mod tests;
 
 pub use layout::{LayoutNames, NamedFile, RunNames};
-pub use record::{ManifestRec, MarkNames, put_manifest, read_manifest};
+pub use record::{ManifestRec, MarkNames, manifest_len, put_manifest, read_manifest};

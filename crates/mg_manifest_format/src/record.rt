@@ -6,7 +6,7 @@ ghost use Rattle.mg_manifest_format.specs.Manifests.{manifest_body, numbers_byte
 ghost use Rattle.mg_manifest_format.specs.Spelling.{IsSplit};
 
 use crate::flaws::check_record;
-use crate::items::{put_items, split_items_u8};
+use crate::items::{items_len, put_items, split_items_u8};
 use crate::layout::LayoutNames;
 use crate::spelled::Spelled;
 use mg_frame::{put_u8, put_u64, split_u8, split_u64};
@@ -55,6 +55,11 @@ impl Spelled for MarkNames {
         self.layout.put(out)
     }
 
+    #[tactic(auto, using(crate::proofs::LengthLaws::mark_len, crate::proofs::LengthLaws::layout_most))]
+    fn spelled_len(&self) -> usize {
+        self.mark.to_be_bytes().len() + self.layout.spelled_len()
+    }
+
     fn split(alloc: Global, bytes: &[u8]) -> Result<Option<(MarkNames, &[u8])>, Fault> {
         let Some((mark, rest)) = split_u64(bytes) else {
             return Ok(None);
@@ -64,6 +69,15 @@ impl Spelled for MarkNames {
         };
         Ok(Some((MarkNames { mark, layout }, rest)))
     }
+}
+
+/// How many bytes the body of the record's frame takes.
+#[tactic(auto, using(crate::proofs::LengthLaws::manifest_len, crate::proofs::LengthLaws::layout_most, crate::proofs::LengthLaws::marks_most))]
+pub fn manifest_len(rec: &ManifestRec) -> usize
+    requires { IsManifest rec.now }
+    ensures { result ≡ length (manifest_body rec.now) }
+{
+    42 + rec.layout.spelled_len() + items_len(rec.marks.as_slice())
 }
 
 /// Appends the format and the numbers before the layout.
@@ -107,7 +121,7 @@ fn split_numbers(bytes: &[u8]) -> Option<(Numbers, &[u8])>
     ensures written { (epoch applied receipt flushed next_file : ℕ) (rest : List ℕ) → epoch < 2 ^ 64 → applied < 2 ^ 64 → receipt < 2 ^ 64 → flushed < 2 ^ 64 → next_file < 2 ^ 64
         → bytes.now ≡ numbers_bytes epoch applied receipt flushed next_file ++ rest
         → IsSome result × IfSome result (λ split. (split.0.epoch ≡ epoch) × (split.0.applied ≡ applied) × (split.0.receipt ≡ receipt)
-            × (split.0.flushed ≡ flushed) × (split.0.next_file ≡ next_file) × (split.1.now ≡ rest)) }
+        × (split.0.flushed ≡ flushed) × (split.0.next_file ≡ next_file) × (split.1.now ≡ rest)) }
 {
     let (format, rest) = split_u8(bytes)?;
     if format != FORMAT {

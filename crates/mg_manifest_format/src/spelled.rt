@@ -17,6 +17,11 @@ pub(crate) trait Spelled: Drop {
         ensures ok { OnOk result (out.new.items ≡ out.old.items ++ spelling.bytes self.now) }
         ensures front { take (length out.old.items) out.new.items ≡ out.old.items };
 
+    /// How many bytes its spelling has.
+    fn spelled_len(&self) -> usize
+        requires { spelling.fits self.now }
+        ensures { result ≡ length (spelling.bytes self.now) };
+
     /// The value at the front of the bytes, and what follows it; none where they begin with none.
     fn split(alloc: Global, bytes: &[u8]) -> Result<Option<(Self, &[u8])>, Fault>
         ensures read { IfOk result (λ found. IsSplit spelling bytes.now found) }

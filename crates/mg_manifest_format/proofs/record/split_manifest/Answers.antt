@@ -45,7 +45,7 @@ returns-clause-read c =
         marks = marks_read.0.0;
       },
       c.in-Some.ensures.split ∙ ap (λ (l : List ℕ). front ++ l) (layout_read.0.1 ∙ ap (λ (l : List ℕ). layout ++ l)
-      (marks_read.0.1 ∙ ap (λ (l : List ℕ). marks ++ l) (nil_from_length c.in-Some-3.rest.now none) ∙ append-nil marks)),
+          (marks_read.0.1 ∙ ap (λ (l : List ℕ). marks ++ l) (nil_from_length c.in-Some-3.rest.now none) ∙ append-nil marks)),
     )
 
 pub returns-clause-written : goal.returns-clause-written

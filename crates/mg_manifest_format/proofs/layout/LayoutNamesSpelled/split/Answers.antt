@@ -6,15 +6,15 @@ use Rattle.mg_manifest_format.proofs.layout.LayoutNamesSpelled.split.Goals as go
 
 pub returns-in_default-3-clause-read : goal.returns-in_default-3-clause-read
 returns-in_default-3-clause-read c = (
-      tt,
-      λ x rest fits spelled.
-          let runs = (counted_list 2 run_spelling).bytes x.runs in
-          let segments = (counted_list 4 file_spelling).bytes x.segments in
-          let deletes = (counted_list 4 file_spelling).bytes x.deletes in
-          let first = ((rw c.in-Some.is at c.in_ok-runs.ensures.read).1 x.runs (segments ++ (deletes ++ rest)) fits.0 (spelled ∙ three_behind runs segments deletes rest)).1 in
-          let second = ((rw c.in-Some-2.is at c.in_ok-segments.ensures.read).1 x.segments (deletes ++ rest) fits.1 first.1).1 in
-          (rw c.in_default-3.is at c.in_ok-deletes.ensures.read).1 x.deletes rest fits.2 second.1,
-    )
+  tt,
+  λ x rest fits spelled.
+      let runs = (counted_list 2 run_spelling).bytes x.runs in
+      let segments = (counted_list 4 file_spelling).bytes x.segments in
+      let deletes = (counted_list 4 file_spelling).bytes x.deletes in
+      let first = ((rw c.in-Some.is at c.in_ok-runs.ensures.read).1 x.runs (segments ++ (deletes ++ rest)) fits.0 (spelled ∙ three_behind runs segments deletes rest)).1 in
+      let second = ((rw c.in-Some-2.is at c.in_ok-segments.ensures.read).1 x.segments (deletes ++ rest) fits.1 first.1).1 in
+      (rw c.in_default-3.is at c.in_ok-deletes.ensures.read).1 x.deletes rest fits.2 second.1,
+)
 
 pub returns-clause-read : goal.returns-clause-read
 returns-clause-read c =
