@@ -1,15 +1,11 @@
 -- Lists, layouts, marks and records are spelled in one way.
-use Rattle.std.proofs.Common.{◌≡◌, ℕ, ◌<◌, ◌^◌, List, [], ◌∷◌, ◌++◌, length, refl, sym, ap, ◌∙◌, arith}
+use Rattle.std.proofs.Common.{◌≡◌, ℕ, ◌<◌, ◌^◌, List, [], ◌∷◌, ◌++◌, length, refl, sym, ◌∙◌, arith}
 use Rattle.std.proofs.lemmas.List.{append-nil, append_assoc}
 use Rattle.std.specs.List.{AllByRecursion}
 use Rattle.mg_frame.specs.BigEndian.{big_endian}
 use Rattle.mg_frame.proofs.SplitLaws.{one_number}
-use Rattle.mg_manifest_format.specs.declared.layout.LayoutNames.{LayoutNames}
-use Rattle.mg_manifest_format.specs.declared.layout.NamedFile.{NamedFile}
-use Rattle.mg_manifest_format.specs.declared.layout.RunNames.{RunNames}
 use Rattle.mg_manifest_format.specs.declared.record.ManifestRec.{ManifestRec}
-use Rattle.mg_manifest_format.specs.declared.record.MarkNames.{MarkNames}
-use Rattle.mg_manifest_format.specs.Manifests.{file_spelling, layout_spelling, manifest_body, mark_spelling, run_spelling, HasRoom, OneManifestLaw}
+use Rattle.mg_manifest_format.specs.Manifests.{file_spelling, layout_spelling, manifest_body, mark_spelling, run_spelling, OneManifestLaw}
 use Rattle.mg_manifest_format.specs.Spelling.{Spelling, counted_list, listed, HasOneSpelling}
 use Rattle.mg_manifest_format.proofs.ReadingLaws.{same_layout, same_mark, same_record, six_behind, three_behind}
 

@@ -1,11 +1,11 @@
-use Rattle.std.proofs.Common.{◌≡◌, ℕ, List, [], ◌++◌, length, Option, Some, None, refl, sym, ap, ◌∙◌, arith, rules}
+use Rattle.std.proofs.Common.{◌≡◌, ℕ, List, [], ◌++◌, length, Option, Some, refl, sym, ap, ◌∙◌, arith, rules}
 use Rattle.std.proofs.lemmas.Bool.{false≢true}
 use Rattle.std.proofs.lemmas.Grind.{common_steps}
 use Rattle.std.proofs.lemmas.List.{append-nil, nil_from_length}
 use Rattle.mg_manifest_format.specs.declared.record.ManifestRec.{ManifestRec}
 use Rattle.mg_manifest_format.specs.Manifests.{layout_spelling, mark_spelling, numbers_bytes}
 use Rattle.mg_manifest_format.specs.Spelling.{counted_list}
-use Rattle.mg_manifest_format.proofs.ReadingLaws.{same_record, three_read}
+use Rattle.mg_manifest_format.proofs.ReadingLaws.{same_record}
 use Rattle.mg_manifest_format.proofs.record.split_manifest.Goals as goal
 
 pub returns-in_default-3-clause-written : goal.returns-in_default-3-clause-written
