@@ -17,8 +17,8 @@ use std::{io, rt};
 /// A draft: a file that no name of a volume stands for.
 #[derive(Drop)]
 pub struct RealDraft {
-    file: File,
-    path: String,
+    pub(crate) file: File,
+    pub(crate) path: String,
 }
 
 /// Where a sealed file was when it was sealed or found.
@@ -60,7 +60,7 @@ pub struct RealFiles<R> {
     folder: String,
     // the host's lock, which the port keeps too
     lock: Arc<File>,
-    // which of the host's ports it is, and how many drafts it has made
+    // which of the host's ports it is, from 1, and how many drafts it has made
     port: u32,
     drafts: u64,
     faults: FaultCount,
@@ -92,8 +92,8 @@ impl<R: rt::Files<File = File> + AllocGlobal + Clone + Drop> RealFiles<R> {
     }
 }
 
-// The next draft of the port, under a name that no file has.
-fn make_draft<R: rt::Files<File = File>>(
+/// The next draft of the port with that number, under a name that no file has. `drafts` counts them.
+pub(crate) fn make_draft<R: rt::Files<File = File>>(
     rt: &R,
     alloc: Global,
     folder: &str,

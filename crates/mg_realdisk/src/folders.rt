@@ -1,12 +1,20 @@
 //! What is done to folders.
 
+use crate::files::{RealDraft, make_draft};
 use crate::names::{is_draft, name_of, path_of};
+use crate::opened::read_from;
 use mg_disk::Name;
 use std::alloc::Global;
 use std::fs::{File, TryLockError};
-use std::io::ErrorKind;
+use std::io::{ErrorKind, Write};
 use std::rt::Files;
 use std::{fs, io};
+
+/// The number that stands for the host itself among its ports, in the names of drafts.
+const HOST_PORT: u32 = 0;
+
+/// How many bytes of a log are copied at a time.
+const PIECE: usize = 65_536;
 
 /// Makes the folder if it is missing, and syncs the one that holds it. Each folder above it that is missing is made and
 /// synced in the same way first.
@@ -110,18 +118,53 @@ pub(crate) fn delete_drafts<R: Files<File = File> + AllocGlobal + Clone + Drop>(
     Ok(())
 }
 
-/// Makes all that a volume's folder holds lasting: each log, and then the names. Sealed files were synced before they had a
-/// name.
+/// Makes all that a volume's folder holds lasting: each log is written anew, and then the names are synced. Sealed files were
+/// synced before they had a name. It takes time in proportion to the length of the logs. `made` counts the drafts.
 pub(crate) fn settle_folder<R: Files<File = File> + AllocGlobal + Clone + Drop>(
     rt: &R,
     alloc: Global,
     folder: &str,
+    drafts: &str,
+    made: &mut u64,
 ) -> io::Result<()> {
     for name in names_in(rt, alloc, folder)? {
         if name.kind.is_log() {
             let path = path_of(alloc, folder, name)?;
-            File::open(rt, path)?.sync_all()?;
+            let draft = make_draft(rt, alloc, drafts, HOST_PORT, made)?;
+            write_anew(rt, alloc, path.as_str(), draft)?;
         }
     }
     sync_folder(rt, folder)
+}
+
+// Puts a file of the same bytes, which is synced, in the place of the one at that path. To sync the old one would not do: a
+// system that failed to write its bytes, and told so once, may keep them in memory alone and answer Ok from then on.
+fn write_anew<R: Files<File = File>>(
+    rt: &R,
+    alloc: Global,
+    path: &str,
+    draft: RealDraft,
+) -> io::Result<()> {
+    let RealDraft {
+        mut file,
+        path: draft,
+    } = draft;
+    copy_into(alloc, &File::open(rt, path)?, &mut file)?;
+    file.sync_all()?;
+    fs::rename(rt, draft, path)
+}
+
+// Puts all bytes of a file behind those of another.
+fn copy_into(alloc: Global, from: &File, into: &mut File) -> io::Result<()> {
+    let mut piece = vec![in alloc; 0; PIECE]?;
+    let mut at = 0;
+    for _ in 0..u64::MAX {
+        let count = read_from(from, at, &mut piece)?;
+        if count == 0 {
+            break;
+        }
+        into.write_all(&piece[..count])?;
+        at = at.saturating_add(count as u64);
+    }
+    Ok(())
 }

@@ -8,7 +8,8 @@
 //! - a new log is made, synced while it is empty, and then its folder is synced;
 //! - where a name is removed, also one that was not there, the folder is synced behind it;
 //! - a folder that is missing is made, and then the one that holds it is synced;
-//! - before a volume is lent, the folders that hold it are synced, then each log in it, then its own folder.
+//! - before a volume is lent, the folders that hold it are synced; then each log in it is written anew, into a draft that is
+//!   synced and renamed over the log; then its own folder is synced. It costs the length of the logs.
 //!
 //! One folder serves one host at a time: the host locks it at the first call that touches it, and the system frees the lock
 //! with the host, its volumes and ports, also where the process is killed.

@@ -26,6 +26,9 @@ pub(crate) struct Root<R> {
     lock: Option<Arc<File>>,
     // how many ports were made
     ports: u32,
+    // whether the drafts of earlier hosts were deleted, and how many this one made itself
+    swept: bool,
+    drafts: u64,
 }
 
 impl<R: Files<File = File> + AllocGlobal + Clone + Drop> Root<R> {
@@ -39,6 +42,8 @@ impl<R: Files<File = File> + AllocGlobal + Clone + Drop> Root<R> {
             folder,
             lock: None,
             ports: 0,
+            swept: false,
+            drafts: 0,
         }
     }
 
@@ -84,29 +89,43 @@ impl<R: Files<File = File> + AllocGlobal + Clone + Drop> Root<R> {
         }
     }
 
-    /// Volume n, after its folder was made where it was missing, and all in it was made lasting.
+    // The folder of drafts, which is made where it is missing. At the first call the drafts that are there are deleted.
+    fn draft_folder(&mut self, alloc: Global) -> io::Result<String> {
+        let folder = draft_folder(alloc, self.folder.as_str())?;
+        make_folder(&self.rt, alloc, folder.as_str())?;
+        if !self.swept {
+            delete_drafts(&self.rt, alloc, folder.as_str())?;
+            self.swept = true;
+        }
+        Ok(folder)
+    }
+
+    /// Volume n, after its folder was made where it was missing, and all in it was made lasting: its logs were written anew.
     pub(crate) fn volume(&mut self, alloc: Global, n: u16) -> io::Result<RealVolume<R>>
         ensures faults { IfOk result (λ volume. kept_count volume.faults ≡ 0) }
         ensures writing { IfOk result (λ volume. (name : Name) → has_in_writing volume.writing name ≡ false) }
     {
         let lock = self.make(alloc)?;
+        let drafts = self.draft_folder(alloc)?;
         let folder = volume_folder(alloc, self.folder.as_str(), n)?;
         make_folder(&self.rt, alloc, folder.as_str())?;
-        settle_folder(&self.rt, alloc, folder.as_str())?;
+        settle_folder(
+            &self.rt,
+            alloc,
+            folder.as_str(),
+            drafts.as_str(),
+            &mut self.drafts,
+        )?;
         Ok(RealVolume::new(alloc, self.rt.clone()?, folder, lock))
     }
 
-    /// A port, after the folder of drafts was made where it was missing. Before the first port the drafts that are there
-    /// are deleted.
+    /// A port, after the folder of drafts was made where it was missing. Before the first volume or port the drafts that are
+    /// there are deleted.
     pub(crate) fn port(&mut self, alloc: Global) -> io::Result<RealFiles<R>>
         ensures { IfOk result (λ port. kept_count port.faults ≡ 0) }
     {
         let lock = self.make(alloc)?;
-        let folder = draft_folder(alloc, self.folder.as_str())?;
-        make_folder(&self.rt, alloc, folder.as_str())?;
-        if self.ports == 0 {
-            delete_drafts(&self.rt, alloc, folder.as_str())?;
-        }
+        let folder = self.draft_folder(alloc)?;
         let Some(ports) = self.ports.checked_add(1) else {
             return Err(io::Error::from(ErrorKind::QuotaExceeded));
         };

@@ -6,6 +6,7 @@ use mg_disk::{
     DiskError, Files, Host, Kind, Name, Volume, read_file, read_found, store_file, store_log,
     write_file,
 };
+use std::os::unix::fs::MetadataExt;
 use std::test::Fail;
 use std::{env, fs, io, process};
 
@@ -258,6 +259,30 @@ fn a_file_is_not_named_where_another_stands(rt: HostRuntime) -> Result<(), Fail>
     assert!(rt; has_failed(&volume.adopt(alloc, TABLE, &file)));
     assert!(rt; volume.names(alloc)?.is_empty());
     drop(draft);
+    fs::remove_dir_all(&rt, &folder)?;
+    Ok(())
+}
+
+// A log of more than one piece is another file of the same bytes, and a draft that a crash left is gone.
+#[test]
+fn a_volume_that_is_lent_has_its_logs_written_anew(rt: HostRuntime) -> Result<(), Fail> {
+    let alloc = rt.alloc();
+    let folder = new_folder(&rt, "anew")?;
+    fs::create_dir_all(&rt, format!(in alloc; "{folder}/wal")?)?;
+    fs::create_dir_all(&rt, format!(in alloc; "{folder}/tmp")?)?;
+    let path = format!(in alloc; "{folder}/wal/w0000000000000007")?;
+    let mut bytes = vec![in alloc; b'a'; 65_536]?;
+    bytes.extend_from_slice(b"the end")?;
+    fs::write(&rt, &path, &bytes)?;
+    let found = fs::metadata(&rt, &path)?.ino();
+    let draft = format!(in alloc; "{folder}/tmp/d000000000000000000000001")?;
+    fs::write(&rt, &draft, "a front")?;
+    let mut host = RealHost::new(rt, String::from_str(alloc, &folder)?);
+    let volume = host.volume(alloc, 65535)?;
+    assert!(rt; fs::metadata(&rt, &path)?.ino() != found);
+    assert_eq!(rt; fs::read(&rt, &path)?.as_slice(), bytes.as_slice());
+    assert!(rt; !fs::exists(&rt, &draft)?);
+    drop(volume);
     fs::remove_dir_all(&rt, &folder)?;
     Ok(())
 }
