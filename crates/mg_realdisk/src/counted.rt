@@ -11,6 +11,7 @@ use std::io::ErrorKind;
 /// What the system answered, with each error counted but want of memory.
 pub(crate) fn counted<T>(faults: &mut FaultCount, outcome: io::Result<T>) -> Result<T, DiskError>
     ensures value { IfOk result (λ value. outcome ≡ Ok value) }
+    ensures given { IfOk outcome (λ value. result ≡ Ok value) }
     ensures cause { HasCause DiskError.Failed (kept_count faults.old) (kept_count faults.new) result }
     ensures once { CountsOnce (kept_count faults.old) (kept_count faults.new) result }
 {

@@ -120,7 +120,7 @@ fn len_of(file: &File) -> io::Result<u64> {
 }
 
 impl<R: rt::Files<File = File> + AllocGlobal + Clone + Drop> Files for RealFiles<R> {
-    ghost use Rattle.std.specs.Prelude.{◌≡◌, ◌≤◌, ◌∷◌, [], length, IfOk, IsTrue};
+    ghost use Rattle.std.specs.Prelude.{◌≡◌, ◌≤◌, ◌↔◌, ◌∷◌, [], length, IfOk, IsTrue};
     ghost use Rattle.mg_faults.specs.Causes.{HasCause, CountsOnce};
     ghost use Rattle.mg_faults.proofs.CallLaws.{kept_is_bounded};
     ghost use Rattle.mg_realdisk.specs.Known.{number_list};
@@ -174,11 +174,15 @@ impl<R: rt::Files<File = File> + AllocGlobal + Clone + Drop> Files for RealFiles
         })
     }
 
-    fn same(&self, a: &RealSealed, b: &RealSealed) -> bool {
+    fn same(&self, a: &RealSealed, b: &RealSealed) -> bool
+        ensures known { IsTrue result ↔ (number_list a.now.number ≡ number_list b.now.number) }
+    {
         a.number == b.number
     }
 
-    fn keeps(&self, _: &RealSealed) -> bool {
+    fn keeps(&self, _: &RealSealed) -> bool
+        ensures { IsTrue result }
+    {
         true
     }
 

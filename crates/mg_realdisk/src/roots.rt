@@ -1,6 +1,6 @@
 //! The folder of a host: its lock, its settings, and what volumes and ports are made in it.
 
-ghost use Rattle.std.specs.Prelude.{◌≡◌, false, IfOk};
+ghost use Rattle.std.specs.Prelude.{◌≡◌, None, false, IfOk};
 ghost use Rattle.mg_faults.specs.Causes.{kept_count};
 
 use crate::files::RealFiles;
@@ -33,7 +33,7 @@ pub(crate) struct Root<R> {
 
 impl<R: Files<File = File> + AllocGlobal + Clone + Drop> Root<R> {
     ghost use Rattle.mg_types.specs.declared.names.Name.{Name};
-    ghost use Rattle.mg_realdisk.specs.Known.{has_in_writing};
+    ghost use Rattle.mg_realdisk.specs.Known.{has_in_writing, known_number};
 
     /// That folder, which is not touched yet.
     pub(crate) fn new(rt: R, folder: String) -> Root<R> {
@@ -104,6 +104,7 @@ impl<R: Files<File = File> + AllocGlobal + Clone + Drop> Root<R> {
     pub(crate) fn volume(&mut self, alloc: Global, n: u16) -> io::Result<RealVolume<R>>
         ensures faults { IfOk result (λ volume. kept_count volume.faults ≡ 0) }
         ensures writing { IfOk result (λ volume. (name : Name) → has_in_writing volume.writing name ≡ false) }
+        ensures known { IfOk result (λ volume. (name : Name) → known_number volume.known name ≡ None) }
     {
         let lock = self.make(alloc)?;
         let drafts = self.draft_folder(alloc)?;

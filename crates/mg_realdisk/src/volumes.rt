@@ -40,14 +40,15 @@ pub struct RealVolume<R> {
 }
 
 impl<R: Files<File = File> + AllocGlobal + Clone + Drop> RealVolume<R> {
-    ghost use Rattle.std.specs.Prelude.{◌≡◌, false};
+    ghost use Rattle.std.specs.Prelude.{◌≡◌, None, false};
     ghost use Rattle.mg_types.specs.declared.names.Name.{Name};
-    ghost use Rattle.mg_realdisk.specs.Known.{has_in_writing};
+    ghost use Rattle.mg_realdisk.specs.Known.{has_in_writing, known_number};
 
-    /// The volume in that folder, all of which is lasting. No log is in writing.
+    /// The volume in that folder, all of which is lasting. No log is in writing, and no name is known.
     pub(crate) fn new(alloc: Global, rt: R, folder: String, lock: Arc<File>) -> RealVolume<R>
         ensures faults { kept_count result.faults ≡ 0 }
         ensures writing { (name : Name) → has_in_writing result.writing name ≡ false }
+        ensures known { (name : Name) → known_number result.known name ≡ None }
     {
         RealVolume {
             rt,
@@ -177,7 +178,7 @@ fn len_in<R: Files<File = File>>(
 }
 
 impl<R: Files<File = File> + AllocGlobal + Clone + Drop> Volume for RealVolume<R> {
-    ghost use Rattle.std.specs.Prelude.{◌≡◌, ◌≢◌, ◌≤◌, ◌⊎◌, false, Some, None, length, IfOk, IfSome, OnOk, OnErr, IsTrue};
+    ghost use Rattle.std.specs.Prelude.{◌≡◌, ◌≢◌, ◌≤◌, ◌⊎◌, ◌↔◌, false, Some, None, length, IfOk, IfSome, OnOk, OnErr, IsTrue};
     ghost use Rattle.mg_types.specs.declared.names.Name.{Name};
     ghost use Rattle.mg_faults.specs.Causes.{HasCause, CountsOnce};
     ghost use Rattle.mg_faults.proofs.CallLaws.{kept_is_bounded};
@@ -208,8 +209,13 @@ impl<R: Files<File = File> + AllocGlobal + Clone + Drop> Volume for RealVolume<R
     fn find_file(&mut self, alloc: Global, name: Name) -> Result<Option<RealSealed>, DiskError> {
         let found = find_in(&self.rt, alloc, self.folder.as_str(), name);
         let found = counted(&mut self.faults, found)?;
-        if let Some(file) = &found {
-            self.known.insert(name, file.number)?;
+        match &found {
+            Some(file) => {
+                self.known.insert(name, file.number)?;
+            }
+            None => {
+                self.known.remove(&name);
+            }
         }
         Ok(found)
     }
@@ -229,7 +235,9 @@ impl<R: Files<File = File> + AllocGlobal + Clone + Drop> Volume for RealVolume<R
         counted(&mut self.faults, removed)
     }
 
-    fn holds(&self, name: Name, file: &RealSealed) -> bool {
+    fn holds(&self, name: Name, file: &RealSealed) -> bool
+        ensures known { IsTrue result ↔ (known_number self.now.known name ≡ Some (number_list file.now.number)) }
+    {
         match self.known.get(&name) {
             Some(number) => *number == file.number,
             None => false,
