@@ -205,6 +205,58 @@ fn a_scan_reads_the_blocks_from_the_first_wanted_on(rt: HostRuntime) -> Result<(
     Ok(())
 }
 
+/// The numbers above `after` in the block of this number.
+fn numbers_in_page(
+    alloc: Global,
+    port: &mut Port,
+    file: &Segment,
+    block: usize,
+    after: u64,
+) -> Result<Vec<u64>, Fault> {
+    if block >= file.blocks() {
+        return Err(Fault::BadWords);
+    }
+    let mut buffer = Vec::new(alloc);
+    let mut numbers = Vec::new(alloc);
+    for it in &file.page(alloc, port, block, after, &mut buffer)? {
+        numbers.push(it.seq)?;
+    }
+    Ok(numbers)
+}
+
+#[test]
+fn a_page_has_the_records_of_one_block(rt: HostRuntime) -> Result<(), Fail> {
+    let alloc = rt.alloc();
+    let mut port = port_failing_at(alloc, 0)?;
+    let file = opened(alloc, &mut port)?;
+    assert_eq!(rt; file.blocks(), 3);
+    port.take_reads();
+    // frames of four records of 1,015 bytes, of four and of two
+    for (block, after, first, last, read) in [
+        (0, 0, Some(10), Some(40), 4_080),
+        (0, 20, Some(30), Some(40), 4_080),
+        (1, 20, Some(50), Some(80), 4_080),
+        (1, 80, None, None, 4_080),
+        (2, 99, Some(100), Some(100), 2_050),
+    ] {
+        let numbers = numbers_in_page(alloc, &mut port, &file, block, after)?;
+        assert_eq!(rt; numbers.first().copied(), first);
+        assert_eq!(rt; numbers.last().copied(), last);
+        assert_eq!(rt; port.take_reads(), (1, read), "block {block} above {after}");
+    }
+    Ok(())
+}
+
+#[test]
+fn pages_begin_where_the_records_above_a_number_do(rt: HostRuntime) -> Result<(), Fail> {
+    let alloc = rt.alloc();
+    let file = opened(alloc, &mut port_failing_at(alloc, 0)?)?;
+    for (after, start) in [(0, 0), (49, 0), (50, 1), (89, 1), (90, 2), (99, 2), (100, 3)] {
+        assert_eq!(rt; file.start(after), start, "above {after}");
+    }
+    Ok(())
+}
+
 #[test]
 fn no_more_bytes_are_read_than_are_wanted(rt: HostRuntime) -> Result<(), Fail> {
     let alloc = rt.alloc();

@@ -1,5 +1,5 @@
 -- Which block has a key, and what a filter denies.
-use Rattle.std.proofs.Common.{inr, ◌≡◌, ℕ, zero, suc, ◌+◌, ◌-◌, ◌<◌, ◌≤◌, cond, Bool, true, false, List, [], ◌∷◌, ◌++◌, length, get_or, map, replicate, refl, sym, ap, subst, ◌∙◌, arith, Option, Some, None, MatchOption}
+use Rattle.std.proofs.Common.{inl, inr, ◌≡◌, ℕ, zero, suc, ◌+◌, ◌-◌, ◌<◌, ◌≤◌, cond, Bool, true, false, List, [], ◌∷◌, ◌++◌, length, get_or, map, replicate, refl, sym, ap, subst, ◌∙◌, arith, Option, Some, None, MatchOption}
 use Rattle.std.proofs.lemmas.Bool.{and_parts, false_from_ne_true, true≢false}
 use Rattle.std.proofs.lemmas.List.{length-replicate}
 use Rattle.std.proofs.lemmas.List.Elements.{All-head, All-tail}
@@ -182,6 +182,20 @@ sought table key index n (Some number) same held within last following before =
       following = subst (λ (ps : List (BlockHandle (List ℕ))). number + 1 < length ps → HoldsAt (λ (handle : BlockHandle (List ℕ)). Precedes key handle.first) ps (number + 1)) same
           (λ more. subst (λ (k : ℕ). HoldsAt (λ (handle : BlockHandle (List ℕ)). Precedes key handle.first) index k) step (following (omega arith)));
     }
+
+no_handle : BlockHandle (List ℕ)
+no_handle = record { first = []; at = 0; len = 0 }
+
+-- where the filter does not deny a key and the first of some blocks does not begin above it, the key is sought
+pub sought_somewhere : {S : Type 0} (table : Table S) (key : List ℕ) → has_words table.filter (key_words key) ≡ true → 0 < length table.indexed.index
+    → HoldsAt (λ handle. Precedes key handle.first → ⊥) table.indexed.index 0 → IsSoughtNowhere table key → ⊥
+sought_somewhere table key held some first (inl denied) = let e : false ≡ true = sym denied ∙ held in absurd cc
+sought_somewhere table key held some first (inr below) = first no_handle (below some no_handle)
+
+-- an option that has nothing where it would need this
+pub none_without : {T : Type 0} (option : Option T) (P : Type 0) (value : T) → SomeIff option P value → (P → ⊥) → option ≡ None
+none_without None P value is never = refl
+none_without (Some other) P value is never = absurd (never is.0)
 
 -- ---- the entry of a payload
 

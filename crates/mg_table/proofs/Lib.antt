@@ -8,6 +8,7 @@ pub mod IndexLaws
 pub mod KnownLaws
 pub mod ListLaws
 pub mod ListingLaws
+pub mod PageLaws
 pub mod LoadingLaws
 pub mod OneFileLaws
 pub mod PayloadLaws

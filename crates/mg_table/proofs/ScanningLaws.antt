@@ -71,7 +71,7 @@ block-push last entry =
     ∙ length-append (block_body last) (item_of (last_key last) (pair_of entry)) ∙ ap (λ n. length (block_body last) + n) (item-length (last_key last) entry)
 
 -- the last key of blocks is that of the last one
-last-behind : (front last : List Entry) → last ≢ [] → last_key (front ++ last) ≡ last_key last
+pub last-behind : (front last : List Entry) → last ≢ [] → last_key (front ++ last) ≡ last_key last
 last-behind front [] some = absurd (some refl)
 last-behind front (y ∷ ys) some = ap (λ (p : Pair). p.key) (last_of-behind front y ys)
 
@@ -119,7 +119,7 @@ items-parts (block ∷ blocks) zero d within = refl
 items-parts (block ∷ blocks) (suc k) d within =
     ap (λ xs. block ++ xs) (items-parts blocks k d (omega arith)) ∙ sym (append_assoc block (items_of (take k blocks)) (get_or blocks k d ++ items_of (drop (suc k) blocks)))
 
-rises-into : (before block more : List Entry) → block ≢ [] → AreEntries (before ++ (block ++ more)) → Precedes (last_key before) (first_key block)
+pub rises-into : (before block more : List Entry) → block ≢ [] → AreEntries (before ++ (block ++ more)) → Precedes (last_key before) (first_key block)
 rises-into before [] more some are = absurd (some refl)
 rises-into before (y ∷ ys) more some are = rise-at (record { key = []; payload = [] }) before y (ys ++ more) are.rising
 

@@ -3,6 +3,7 @@ pub mod Filters
 pub mod Index
 pub mod Lists
 pub mod Loading
+pub mod Pages
 pub mod Payload
 pub mod Reading
 pub mod Scanning

@@ -1,13 +1,14 @@
 //! What a scan asks of the entries that it lists.
 
-ghost use Rattle.std.specs.Prelude.{◌≡◌, ◌≤◌, ◌<◌, ◌^◌, length, take, drop, MatchOption, MatchResult};
+ghost use Rattle.std.specs.Prelude.{◌≡◌, ◌≤◌, ◌<◌, ◌^◌, length, take, drop, HoldsAt, MatchOption, MatchResult};
 ghost use Rattle.mg_table.specs.Entries.{first_key};
+ghost use Rattle.mg_table.specs.Pages.{IsPlaced};
 ghost use Rattle.mg_table.specs.Scanning.{item_length, last_key, AreCounted, IsNext};
 ghost use Rattle.mg_table.specs.Table.{sizes_of};
 
 use mg_block::shared_len;
 use mg_indexed::{BlockHandle, Footer};
-use mg_sealed::BLOCK_LIMIT;
+use mg_sealed::{BLOCK_LIMIT, malformed};
 use mg_types::{Entry, Fault, FileId, Key};
 use std::cmp::Ordering;
 
@@ -72,6 +73,31 @@ pub(crate) fn check_block(
     let last = last_key(before);
     if last.cmp(first) != Ordering::Less || len + item_len(last, first) <= BLOCK_LIMIT {
         return Err(malformed);
+    }
+    Ok(())
+}
+
+/// Judges the block of this number by itself, which has `size` bytes and these entries: it begins with the key that the index says,
+/// is not too large, and its keys are below that with which the next block begins.
+pub(crate) fn check_page(
+    id: FileId,
+    handles: &[BlockHandle<Key>],
+    number: usize,
+    entries: &[Entry],
+    size: usize,
+) -> Result<(), Fault>
+    requires { number < length handles.now }
+    ensures { MatchResult result
+        (λ _. IsPlaced handles.now number entries.now size)
+        (λ fault. (IsPlaced handles.now number entries.now size → ⊥)
+        × HoldsAt (λ handle. fault ≡ Fault.Malformed id handle.at) handles.now number) }
+{
+    let handle = &handles[number];
+    check_block(id, handle, entries, 0, BLOCK_LIMIT, size)?;
+    if let Some(next) = handles.get(number + 1) {
+        if last_key(entries).cmp(next.first.bytes()) != Ordering::Less {
+            return Err(malformed(id, handle.at));
+        }
     }
     Ok(())
 }

@@ -9,6 +9,7 @@ mod entry;
 mod filters;
 pub mod laws;
 mod load;
+mod pages;
 mod reading;
 mod table;
 #[cfg(test)]

@@ -47,6 +47,7 @@ impl<S: Drop> Table<S> {
             Answers (Ok (entry_of key.now entries)) result) }
         ensures read { IfOk result (λ found. IfSome (F.Files.told self.now.indexed.file.file) (λ bytes. self.now.indexed.file.len ≡ length bytes →
             IsFindRead self.now bytes key.now found)) }
+        ensures unread { IsSoughtNowhere self.now key.now → (port.new ≡ port.old) × (result ≡ Ok None) }
         ensures refusals { IfErr result (λ fault. IsOutside fault ⊎ HasUnfit self.now fault) }
         ensures causes { IfErr result (λ fault. IfSome (F.Files.told self.now.indexed.file.file) (λ bytes. self.now.indexed.file.len ≡ length bytes →
             IsOutside fault ⊎ IsFindRefused self.now bytes key.now fault)) }
@@ -71,6 +72,7 @@ impl<S: Drop> Table<S> {
             Answers (Ok (entry_of key.now entries)) result) }
         ensures read { IfOk result (λ found. IfSome (F.Files.told self.now.indexed.file.file) (λ bytes. self.now.indexed.file.len ≡ length bytes →
             IsFindRead self.now bytes key.now found)) }
+        ensures unread { IsSoughtNowhere self.now key.now → (port.new ≡ port.old) × (result ≡ Ok None) }
         ensures refusals { IfErr result (λ fault. IsOutside fault ⊎ HasUnfit self.now fault) }
         ensures causes { IfErr result (λ fault. IfSome (F.Files.told self.now.indexed.file.file) (λ bytes. self.now.indexed.file.len ≡ length bytes →
             IsOutside fault ⊎ IsFindRefused self.now bytes key.now fault)) }
@@ -136,14 +138,14 @@ impl<S: Drop> Table<S> {
     }
 
     /// What faults call the file.
-    fn id(&self) -> FileId
+    pub(crate) fn id(&self) -> FileId
         ensures { result ≡ self.now.indexed.file.id }
     {
         self.indexed.file().id
     }
 
     /// The block of this number, whose handle this is, in a buffer that is lent. Of the block it judges the frame alone.
-    fn read_block<F: Blocks<Sealed = S>>(
+    pub(crate) fn read_block<F: Blocks<Sealed = S>>(
         &self,
         alloc: Global,
         port: &mut F,
@@ -178,6 +180,7 @@ fn block_for<S>(table: &Table<S>, key: &Key, hashed: &HashedKey) -> Option<usize
     ensures sought { MatchOption result
         (IsSoughtNowhere table.now key.now)
         (λ number. IsSoughtIn table.now key.now number) }
+    ensures nowhere { IsSoughtNowhere table.now key.now → result ≡ None }
     ensures only { (entries : List Entry) (blocks : List (List Entry)) →
         IsTableOf table.now.indexed.footer.low table.now.indexed.footer.high entries blocks table.now.filter → table.now.indexed.index ≡ handles_from 0 blocks →
         MatchOption result
@@ -266,7 +269,7 @@ fn entry_from(id: FileId, at: u64, key: Key, payload: &[u8]) -> Result<Entry, Fa
 }
 
 /// Appends the entries of a block, which was read at this offset of a file.
-fn list_block(
+pub(crate) fn list_block(
     alloc: Global,
     id: FileId,
     at: u64,

@@ -1,6 +1,8 @@
 //! A table as it is kept in memory.
 
-ghost use Rattle.std.specs.Prelude.{◌≡◌};
+ghost use Rattle.std.specs.Prelude.{◌≡◌, ◌≤◌, ℕ, List, length, Option};
+ghost use Rattle.mg_table.specs.Table.{Represents};
+ghost use Rattle.mg_types.specs.declared.items.Entry.{Entry};
 
 use mg_bloom::Filter;
 use mg_indexed::Indexed;
@@ -34,6 +36,15 @@ impl<S> Table<S> {
         ensures { result ≡ self.now.indexed.footer.sum }
     {
         self.indexed.footer().sum
+    }
+
+    /// How many blocks the file has.
+    pub fn blocks(&self) -> usize
+        ensures index { result ≡ length self.now.indexed.index }
+        ensures some { 1 ≤ result }
+        ensures entries { (told : S → Option (List ℕ)) (entries : List Entry) → (stands : Represents told self.now entries) → result ≡ length stands.blocks }
+    {
+        self.indexed.handles().len()
     }
 
     /// The interval of sequence numbers, above the first and up to the second, which the writer was given as a label of the table.

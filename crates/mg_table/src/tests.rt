@@ -342,6 +342,41 @@ fn a_block_that_was_closed_too_early_is_refused(rt: HostRuntime) {
     assert!(rt; seen == Err(malformed(37)));
 }
 
+/// The same of two blocks, of which the first has the key with which the second one begins.
+const TWICE_HANDLES: &[u8] = b"\x01a\0\0\0\0\0\0\0\0\0\0\0\x36\x01b\0\0\0\0\0\0\0\x36\0\0\0\x25";
+
+const TWICE: &[u8] = b"\x01\0\0\0\0\0\0\0\x03\0\0\0\0\0\0\0\x06\0\0\0\0\0\0\0\0\0\0\0\0\0\0\0\x03\
+    \0\0\0\0\0\0\0\x5b\0\0\0\0\0\0\0\x8b\0\0\0\x02";
+
+/// How many entries are listed of the block of this number in the table of these frames.
+fn page_len(alloc: Global, bodies: &[&[u8]], number: usize) -> Result<usize, Fault> {
+    let mut port = MemFiles::new(Vec::new(alloc));
+    let table = table_of(alloc, &mut port, bodies)?;
+    if number >= table.blocks() {
+        return Err(Fault::BadWords);
+    }
+    let mut buffer = Vec::new(alloc);
+    let page = table.page(alloc, &mut port, number, &mut buffer)?;
+    Ok(page.len())
+}
+
+#[test]
+fn a_page_is_a_block_judged_by_the_index(rt: HostRuntime) {
+    let filter = &BODIES[48..56];
+    let early = [&BODIES[..17], &BODIES[17..34], TWO_HANDLES, filter, TWO_BLOCKS];
+    let twice = [&BODIES[..34], &BODIES[17..34], TWICE_HANDLES, filter, TWICE];
+    // That the second block of the first table has room in the one before is not asked.
+    for (bodies, number, answer) in [
+        (&early, 0, Ok(1)),
+        (&early, 1, Ok(1)),
+        (&twice, 0, Err(malformed(0))),
+        (&twice, 1, Ok(1)),
+    ] {
+        let seen = page_len(rt.alloc(), bodies, number);
+        assert!(rt; seen == answer, "block {number}");
+    }
+}
+
 #[test]
 fn a_find_judges_the_first_key_of_its_block(rt: HostRuntime) -> Result<(), Fail> {
     let alloc = rt.alloc();

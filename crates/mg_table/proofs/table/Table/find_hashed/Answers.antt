@@ -8,6 +8,7 @@ use Rattle.mg_table.specs.Reading.{entry_of, BeginsWithKey, HasUnfit, IsFindRead
 use Rattle.mg_types.specs.declared.faults.Fault.TheVariants.{Malformed, NoMemory}
 use Rattle.mg_types.specs.declared.names.FileId.{FileId}
 use Rattle.mg_sealed.specs.Answers.{IsOutside}
+use Rattle.mg_sealed.specs.Blocks.{IsUnfitAt}
 use Rattle.mg_sealed.proofs.AnswerLaws.{err_is, err_then, ok_then, outside, some_any}
 use Rattle.mg_table.proofs.CauseLaws.{body_refused, find_read, find_refused, frame_refused}
 use Rattle.mg_table.proofs.FrontLaws.{block-begins}
@@ -141,3 +142,28 @@ returns-in_err-check_first-clause-refusals g c =
     let fault = c.in_err-check_first.field-0.0 in
     err_is c.from_residual-in_err-check_first.result fault (λ f. IsOutside f ⊎ HasUnfit table f) (grind (arith, common_steps))
     (inr (number, handle, c.in-Some.ensures.sought.within, sym is, inr (c.in_err-check_first.ensures.1 ∙ ap (λ (i : FileId). Malformed i handle.at) c.id-id.ensures)))
+
+pub returns-in_err-frame-clause-refusals : goal.returns-in_err-frame-clause-refusals
+returns-in_err-frame-clause-refusals g c =
+    let table = c.args.self.now in
+    let number = c.in-Some.number in
+    let handle = c.index-handles-number.result in
+    let is : handle ≡ get_or table.indexed.index number handle = c.index-handles-number.is ∙ ap (λ ps. get_or ps number handle) c.handles.ensures.handles in
+    err_is c.from_residual.result c.in_err-frame.field-0.0 (λ f. IsOutside f ⊎ HasUnfit table f) (grind (arith, common_steps))
+    (elim c.in_err-frame.ensures.refusals [
+      | inl from ↦ inl from
+      | inr unfit ↦ inr (number, handle, c.in-Some.ensures.sought.within, sym is, unfit)
+    ])
+
+pub returns-clause-refusals : goal.returns-clause-refusals
+returns-clause-refusals g c =
+    let table = c.args.self.now in
+    let number = c.in-Some.number in
+    let handle = c.index-handles-number.result in
+    let is : handle ≡ get_or table.indexed.index number handle = c.index-handles-number.is ∙ ap (λ ps. get_or ps number handle) c.handles.ensures.handles in
+    err_then c.find_in_block-found.result (λ fault. (fault ≡ NoMemory) ⊎ IsUnfitAt c.id-id.result handle.at fault) (λ fault. IsOutside fault ⊎ HasUnfit table fault)
+    (λ fault same why. elim why [
+      | inl memory ↦ inl (inl memory)
+      | inr unfit ↦ inr (number, handle, c.in-Some.ensures.sought.within, sym is, subst (λ (i : FileId). IsUnfitAt i handle.at fault) c.id-id.ensures unfit)
+    ])
+    c.find_in_block-found.ensures.refusals
