@@ -1,10 +1,8 @@
 //! Workloads over blocks of a table.
 
 use mg_block::{BlockBuilder, BlockCursor, BlockError, build, find, items};
+use mg_sealed::BLOCK_LIMIT;
 use std::alloc::Global;
-
-/// The most bytes of a block.
-const BLOCK_LIMIT: usize = 4_096;
 
 /// The payload of each key, as long as one of a table.
 const PAYLOAD: [u8; 13] = [7; 13];

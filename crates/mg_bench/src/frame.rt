@@ -2,14 +2,11 @@
 
 ghost use Rattle.std.specs.Prelude.{◌≤◌, ◌^◌, length, IfOk};
 
-use mg_frame::{Taken, put_frame, take_frame};
+use mg_frame::{FRAME_HEADER, Taken, put_frame, take_frame};
 use sha2::{Digest, Sha256};
 use std::alloc::{AllocError, Global};
 
 const MOST_BYTES: usize = 1 << 20;
-
-/// What a frame has before its body.
-const HEADER: usize = 12;
 
 /// `size` bytes, at most `MOST_BYTES`.
 fn body_of(alloc: Global, size: usize) -> Result<Vec<u8>, AllocError>
@@ -50,7 +47,7 @@ pub fn take_frames(alloc: Global, count: u64, size: usize) -> Result<u64, AllocE
 /// The digests alone, over as many bytes as those of a frame cover.
 pub fn digest_only(alloc: Global, count: u64, size: usize) -> Result<u64, AllocError> {
     let mut bytes = body_of(alloc, size)?;
-    bytes.extend_from_slice(&[0; HEADER])?;
+    bytes.extend_from_slice(&[0; FRAME_HEADER])?;
     let mut checksum = 0;
     for _ in 0..count {
         let digest = Sha256::digest(&bytes);

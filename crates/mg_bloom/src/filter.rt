@@ -107,7 +107,14 @@ impl Filter {
         fold_to(&mut self.body, (bits_for(keys) / 8) as usize);
     }
 
-    /// The same filter in memory of its own size. One that was folded keeps the memory that it had before.
+    /// How many bytes of memory the filter's body holds. One that was folded keeps the memory that it had before.
+    pub fn memory(&self) -> usize
+        ensures least { length self.now ≤ result }
+    {
+        self.body.capacity()
+    }
+
+    /// The same filter in memory of its own size: as many bytes as its body has.
     pub fn fitted(&self, alloc: Global) -> Result<Filter, AllocError>
         ensures { IfOk result (λ f. f ≡ self.now) }
     {

@@ -74,8 +74,10 @@ fn a_folded_filter_is_one_made_for_fewer_keys(rt: HostRuntime) -> Result<(), Fai
         folded.fold(keys_put);
         let direct = filter_of(rt.alloc(), keys)?;
         assert_eq!(rt; folded.bytes(), direct.bytes(), "of {keys} keys");
+        assert_eq!(rt; folded.memory(), 16_384, "of {keys} keys");
         let fitted = folded.fitted(rt.alloc())?;
         assert_eq!(rt; fitted.bytes(), direct.bytes(), "of {keys} keys");
+        assert_eq!(rt; fitted.memory(), direct.bytes().len(), "of {keys} keys");
     }
     Ok(())
 }

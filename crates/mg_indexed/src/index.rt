@@ -25,15 +25,16 @@ fn put_handle<K: BlockKey>(handle: &BlockHandle<K>, out: &mut Vec<u8>) -> Result
     put_u32(handle.len, out)
 }
 
-/// The body of the index frame.
+/// The body of the index frame, in memory that is taken at once for so many bytes.
 pub fn index_body<K: BlockKey>(
     alloc: Global,
     handles: &[BlockHandle<K>],
+    len: usize,
 ) -> Result<Vec<u8>, AllocError>
     requires { All (λ handle. K.keys.fits handle.first) handles.now }
     ensures { IfOk result (λ body. body.items ≡ index_bytes K.keys handles.now) }
 {
-    let mut body = Vec::new(alloc);
+    let mut body = Vec::with_capacity(alloc, len)?;
     for handle in handles {
         put_handle(handle, &mut body)?;
     }

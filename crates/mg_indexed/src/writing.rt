@@ -1,12 +1,13 @@
 //! Writing a file: its blocks, and what stands behind them.
 
 ghost use Rattle.std.specs.Prelude.{◌≡◌, ◌≢◌, ◌+◌, ◌<◌, ◌≤◌, ◌^◌, ℕ, List, [], ◌∷◌, ◌++◌, length, IfOk, IfErr, IfSome, OnOk, OnErr};
+ghost use Rattle.std.specs.List.{All};
 ghost use Rattle.mg_faults.specs.Causes.{HasCause, CountsOnce};
 ghost use Rattle.mg_frame.specs.Frames.{numbered_frames};
 ghost use Rattle.mg_sealed.specs.Answers.{IsUnwritten};
 ghost use Rattle.mg_sealed.specs.Writing.{HasFrames};
 ghost use Rattle.mg_indexed.specs.Forms.{IsFrameLength};
-ghost use Rattle.mg_indexed.specs.Index.{first_after};
+ghost use Rattle.mg_indexed.specs.Index.{first_after, index_bytes};
 ghost use Rattle.mg_indexed.specs.Loading.{IsIndexed, IsKept};
 ghost use Rattle.mg_indexed.specs.Writing.{file_bodies, filter_frames, filter_place, footer_from, handle_length, index_length, IsSummary};
 
@@ -154,11 +155,10 @@ impl<D: Drop, K: BlockKey, T: BlockItem> ClosedBlocks<D, K, T> {
         let ClosedBlocks {
             mut frames,
             index,
-            index_len: _,
+            index_len,
             holds,
         } = self;
-        let index_bytes = index_body(alloc, index.as_slice())?;
-        let index_at = append_frame(alloc, port, &mut frames, &index_bytes)?.at;
+        let index_at = put_index(alloc, port, &mut frames, index.as_slice(), index_len)?;
         let filter_at = put_filter(alloc, port, &mut frames, T::has_filter(), filter)?;
         let footer = Footer {
             count: summary.count,
@@ -178,6 +178,31 @@ impl<D: Drop, K: BlockKey, T: BlockItem> ClosedBlocks<D, K, T> {
             holds,
         })
     }
+}
+
+/// Puts the frame of an index, whose body has so many bytes, behind the others, and answers where it stands. The memory of the body
+/// is given back with the answer.
+fn put_index<F: Files, K: BlockKey>(
+    alloc: Global,
+    port: &mut F,
+    frames: &mut FrameWriter<F::Draft>,
+    index: &[BlockHandle<K>],
+    len: u64,
+) -> Result<u64, Fault>
+    requires fits { All (λ handle. K.keys.fits handle.first) index.now }
+    requires few { index_length K.keys index.now < 2 ^ 32 }
+    requires room { frames.old.len + index_length K.keys index.now + 20 < 2 ^ 62 }
+    ensures frames { (bodies : List (List ℕ)) → HasFrames F.drafted frames.old bodies →
+        OnOk result (HasFrames F.drafted frames.new (bodies ++ index_bytes K.keys index.now ∷ [])) }
+    ensures place { IfOk result (λ at. at ≡ frames.old.len) }
+    ensures len { OnOk result (frames.new.len ≡ frames.old.len + index_length K.keys index.now + 20) }
+    ensures outside { IfErr result (λ fault. IsUnwritten fault) }
+    ensures cause { HasCause Fault.WriteFault (F.faults port.old) (F.faults port.new) result }
+    ensures once { CountsOnce (F.faults port.old) (F.faults port.new) result }
+{
+    let body = index_body(alloc, index, len as usize)?;
+    let placed = append_frame(alloc, port, frames, &body)?;
+    Ok(placed.at)
 }
 
 /// Puts the frame of a filter behind the others, in a file that has one, and answers where it stands.

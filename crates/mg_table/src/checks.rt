@@ -61,10 +61,7 @@ pub(crate) fn check_block(
         (λ fault. (IsNext handle.now.first (take listed entries.now) len (drop listed entries.now) size → ⊥)
         × (fault ≡ Fault.Malformed id handle.now.at)) }
 {
-    let malformed = Fault::Malformed {
-        file: id,
-        at: handle.at,
-    };
+    let malformed = malformed(id, handle.at);
     let (before, block) = entries.split_at(listed);
     let first = first_key(block);
     if first != handle.first.bytes() || size > BLOCK_LIMIT {
@@ -124,7 +121,7 @@ pub(crate) fn check_counts(
         (λ _. AreCounted footer.now entries.now)
         (λ fault. (AreCounted footer.now entries.now → ⊥) × (fault ≡ Fault.Malformed id at)) }
 {
-    let malformed = Fault::Malformed { file: id, at };
+    let malformed = malformed(id, at);
     if entries.len() as u64 != footer.count {
         return Err(malformed);
     }

@@ -456,6 +456,7 @@ fn each_of_many_keys_is_found_and_no_other(rt: HostRuntime) -> Result<(), Fail> 
     assert_eq!(rt; table.indexed.handles().len(), 2);
     // The filter was made for 5,000 keys with 65,536 bits, and folded to the 4,096 of 300 keys.
     assert_eq!(rt; table.filter.bytes().len(), 512);
+    assert_eq!(rt; table.filter.memory(), 512);
     for number in 0..300u64 {
         let seen = found(alloc, &mut port, &table, &key_of(2 * number))?;
         assert!(rt; seen == Some((number + 1, 23, number % 3 == 0)), "{number}");
