@@ -251,7 +251,15 @@ fn a_page_has_the_records_of_one_block(rt: HostRuntime) -> Result<(), Fail> {
 fn pages_begin_where_the_records_above_a_number_do(rt: HostRuntime) -> Result<(), Fail> {
     let alloc = rt.alloc();
     let file = opened(alloc, &mut port_failing_at(alloc, 0)?)?;
-    for (after, start) in [(0, 0), (49, 0), (50, 1), (89, 1), (90, 2), (99, 2), (100, 3)] {
+    for (after, start) in [
+        (0, 0),
+        (49, 0),
+        (50, 1),
+        (89, 1),
+        (90, 2),
+        (99, 2),
+        (100, 3),
+    ] {
         assert_eq!(rt; file.start(after), start, "above {after}");
     }
     Ok(())

@@ -363,7 +363,13 @@ fn page_len(alloc: Global, bodies: &[&[u8]], number: usize) -> Result<usize, Fau
 #[test]
 fn a_page_is_a_block_judged_by_the_index(rt: HostRuntime) {
     let filter = &BODIES[48..56];
-    let early = [&BODIES[..17], &BODIES[17..34], TWO_HANDLES, filter, TWO_BLOCKS];
+    let early = [
+        &BODIES[..17],
+        &BODIES[17..34],
+        TWO_HANDLES,
+        filter,
+        TWO_BLOCKS,
+    ];
     let twice = [&BODIES[..34], &BODIES[17..34], TWICE_HANDLES, filter, TWICE];
     // That the second block of the first table has room in the one before is not asked.
     for (bodies, number, answer) in [

@@ -192,10 +192,12 @@ returns-clause-right g c =
     let block = subst (λ (b : List ℕ). IsBlock b (map pair_of l.0)) c.body.ensures l.2 in
     let are : AreEntries page = subst AreEntries (sym same) (record { rising = block.rising; each = l.3 }) in
     let body : frame ≡ block_body page = block.spelling ∙ ap block_body (sym same) in
-    let size : length c.body-size.result.now ≡ length (block_body page) = ap length c.body-size.ensures ∙ ap length body in
-    (are, subst (λ (n : ℕ). IsPlaced table.indexed.index number page n) size
-    (subst (λ ps. IsPlaced ps number page (length c.body-size.result.now)) c.handles-handles.ensures.handles
-    (subst (λ (es : List Entry). IsPlaced c.handles-handles.result.now number es (length c.body-size.result.now)) c.as_slice.ensures c.in_ok-check_page.ensures)))
+    let size : length c.body-size.result.now ≡ length (block_body page) = ap length c.body-size.ensures ∙ ap length body in (
+      are,
+      subst (λ (n : ℕ). IsPlaced table.indexed.index number page n) size
+          (subst (λ ps. IsPlaced ps number page (length c.body-size.result.now)) c.handles-handles.ensures.handles
+          (subst (λ (es : List Entry). IsPlaced c.handles-handles.result.now number es (length c.body-size.result.now)) c.as_slice.ensures c.in_ok-check_page.ensures)),
+    )
 
 pub returns-clause-read : goal.returns-clause-read
 returns-clause-read g c =
