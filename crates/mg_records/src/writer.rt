@@ -12,10 +12,13 @@ use crate::record::Record;
 use mg_disk::Files;
 use mg_frame::put_u64;
 use mg_indexed::{ClosedBlocks, Summary};
-use mg_sealed::{BLOCK_LIMIT, grown};
+use mg_sealed::BLOCK_LIMIT;
 use mg_types::{Fault, FileId, is_seq};
 use std::alloc::{AllocError, Global};
 use std::marker::Model;
+
+/// The body of an index has at most so many bytes.
+const MOST_INDEX_LEN: u64 = 4_294_967_295;
 
 /// A record's number takes so many bytes in a block.
 const NUMBER_LEN: usize = 8;
@@ -130,7 +133,9 @@ impl<D: Drop, R: Record> RecordWriter<D, R> {
         if !self.block.is_empty() && self.block.len() + len > BLOCK_LIMIT {
             let more = RecordWriter::<D, R>::handle_len(self.block_first);
             let kept = self.closed.index_len() + more;
-            grown(kept, more)?;
+            if kept + more > MOST_INDEX_LEN {
+                return Err(Fault::Worn { kept });
+            }
             self.close_block(alloc, port)?;
         }
         self.put_record(it)?;

@@ -7,13 +7,13 @@ use Rattle.mg_records.proofs.FileLaws.{length-index_bytes}
 use Rattle.mg_records.proofs.RecordLaws.{length-record_bytes}
 use Rattle.mg_records.proofs.WriterLaws.{ready_here, ready_new, has_more}
 use Rattle.mg_records.proofs.writer.RecordWriter.push.Goals as goal
-use Rattle.mg_records.proofs.writer.RecordWriter.push.Goals.{then-not-is_empty+then-len-gt-BLOCK_LIMIT+in_ok-grown+in_ok-close_block, else-not-is_empty, else-not-is_empty-via-then-not-is_empty+else-len-gt-BLOCK_LIMIT, else-not-is_empty-via-else-not-is_empty}
+use Rattle.mg_records.proofs.writer.RecordWriter.push.Goals.{then-not-is_empty+then-len-gt-BLOCK_LIMIT+else-kept-more-gt-MOST_INDEX_LEN+in_ok-close_block, else-not-is_empty, else-not-is_empty-via-then-not-is_empty+else-len-gt-BLOCK_LIMIT, else-not-is_empty-via-else-not-is_empty}
 
 pub put_record-requires-clause-room : goal.put_record-requires-clause-room
 put_record-requires-clause-room g c =
     let bytes = length-record_bytes g.R.Record.kind c.args.it.now in
     elim c.if-not-is_empty.branch [
-      | then-not-is_empty+then-len-gt-BLOCK_LIMIT+in_ok-grown+in_ok-close_block w ↦ inl (subst (λ (v : Filing g.row.D.Denot). v.block ≡ []) (sym w.self-is) w.in_ok-close_block.ensures.closed.block)
+      | then-not-is_empty+then-len-gt-BLOCK_LIMIT+else-kept-more-gt-MOST_INDEX_LEN+in_ok-close_block w ↦ inl (subst (λ (v : Filing g.row.D.Denot). v.block ≡ []) (sym w.self-is) w.in_ok-close_block.ensures.closed.block)
       | else-not-is_empty w ↦ elim w.else-not-is_empty.branch [
         | else-not-is_empty-via-then-not-is_empty+else-len-gt-BLOCK_LIMIT w' ↦ inr (grind (arith, common_steps, bytes))
         | else-not-is_empty-via-else-not-is_empty w' ↦ inl (grind (arith, common_steps))
@@ -30,7 +30,7 @@ returns-clause-records g c =
     let here = c.args.self.now in
     let bytes = length-record_bytes kind it in
     elim c.if-not-is_empty.branch [
-      | then-not-is_empty+then-len-gt-BLOCK_LIMIT+in_ok-grown+in_ok-close_block w ↦
+      | then-not-is_empty+then-len-gt-BLOCK_LIMIT+else-kept-more-gt-MOST_INDEX_LEN+in_ok-close_block w ↦
           (let mid = w.close_block.new.self in
           let closing : IsClosing drafted here mid = w.in_ok-close_block.ensures.closed in
           let some : 1 ≤ length here.block = grind (arith, common_steps) in
@@ -53,25 +53,25 @@ returns-clause-records g c =
 pub overflow_add-kept : goal.overflow_add-kept
 overflow_add-kept g c = record { fits = omega (arith, c.index_len.ensures, length-index_bytes c.self.inside.closed.index, c.handle_len-more.ensures, c.self.invariant.blocks) }
 
-pub grown-requires-clause-len : goal.grown-requires-clause-len
-grown-requires-clause-len g c =
-    omega (arith, c.index_len.ensures, length-index_bytes c.self.inside.closed.index, c.handle_len-more.ensures, c.self.invariant.blocks)
+pub overflow_add-kept-then-len-gt-BLOCK_LIMIT : goal.overflow_add-kept-then-len-gt-BLOCK_LIMIT
+overflow_add-kept-then-len-gt-BLOCK_LIMIT g c =
+    record { fits = omega (arith, c.index_len.ensures, length-index_bytes c.self.inside.closed.index, c.handle_len-more.ensures, c.self.invariant.blocks) }
 
-pub returns-in_err-grown-clause-worn : goal.returns-in_err-grown-clause-worn
-returns-in_err-grown-clause-worn g c = λ kept is.
+pub returns-then-kept-more-gt-MOST_INDEX_LEN-clause-worn : goal.returns-then-kept-more-gt-MOST_INDEX_LEN-clause-worn
+returns-then-kept-more-gt-MOST_INDEX_LEN-clause-worn g c = λ kept is.
     let here = c.args.self.now in
     let bytes = length-record_bytes g.R.Record.kind c.args.it.now in
     let some : here.block ≢ [] = λ none. absurd (grind (arith, common_steps, none)) in
     let long : 4096 < length here.block + length (record_bytes g.R.Record.kind c.args.it.now) = grind (arith, common_steps, bytes) in
     let count : c.index_len.result + c.handle_len-more.result ≡ 20 * (length here.index + 1) =
     omega (arith, c.index_len.ensures, length-index_bytes c.self.inside.closed.index, c.handle_len-more.ensures, ap (λ (w : Filing g.row.D.Denot). length w.index) c.self.view_is) in
-    ((some, long, omega (arith, count, c.in_err-grown.ensures.0, c.handle_len-more.ensures)), grind (arith, count), grind (arith, common_steps))
+    ((some, long, omega (arith, count, c.if-kept-more-gt-MOST_INDEX_LEN.true, c.handle_len-more.ensures)), grind (arith, count), grind (arith, common_steps))
 
-pub returns-in_err-grown-clause-refusals : goal.returns-in_err-grown-clause-refusals
-returns-in_err-grown-clause-refusals g c =
-    inr (c.in_err-grown.ensures.1 ∙ ap (λ (n : ℕ). Worn n)
+pub returns-then-kept-more-gt-MOST_INDEX_LEN-clause-refusals : goal.returns-then-kept-more-gt-MOST_INDEX_LEN-clause-refusals
+returns-then-kept-more-gt-MOST_INDEX_LEN-clause-refusals g c =
+    inr (ap (λ (n : ℕ). Worn n)
     (omega (arith, c.index_len.ensures, length-index_bytes c.self.inside.closed.index, c.handle_len-more.ensures, ap (λ (w : Filing g.row.D.Denot). length w.index) c.self.view_is)))
 
 pub close_block-requires-clause-room : goal.close_block-requires-clause-room
 close_block-requires-clause-room g c =
-    omega (arith, c.index_len.ensures, length-index_bytes c.self.inside.closed.index, c.handle_len-more.ensures, c.in_ok-grown.ensures, ap (λ (w : Filing g.row.D.Denot). length w.index) c.self.view_is)
+    omega (arith, c.index_len.ensures, length-index_bytes c.self.inside.closed.index, c.handle_len-more.ensures, c.if-kept-more-gt-MOST_INDEX_LEN.false, ap (λ (w : Filing g.row.D.Denot). length w.index) c.self.view_is)
