@@ -14,7 +14,7 @@ use mg_bloom::Filter;
 use mg_disk::Files;
 use mg_frame::FRAME_OVERHEAD;
 use mg_indexed::{FILTERED_FOOTER_LEN, Footer};
-use mg_sealed::{SealedFile, malformed, read_frame};
+use mg_sealed::{SealedFile, read_frame};
 use mg_types::{Entry, Fault, FileId, Key};
 use std::alloc::Global;
 
@@ -81,10 +81,13 @@ fn read_filter<F: Files>(
     let number = u64::from(blocks) + 1;
     let frame = read_frame(alloc, port, file, at, size as usize, number)?;
     if at + frame.body().len() as u64 + FRAME_OVERHEAD as u64 != footer_at {
-        return Err(malformed(file.id, footer_at));
+        return Err(Fault::Malformed {
+            file: file.id,
+            at: footer_at,
+        });
     }
     let Some(filter) = Filter::of_bytes(frame.into_body()) else {
-        return Err(malformed(file.id, at));
+        return Err(Fault::Malformed { file: file.id, at });
     };
     Ok(filter)
 }
