@@ -12,7 +12,7 @@ use std::alloc::Global;
 use std::fs::File;
 use std::io::{ErrorKind, Write};
 use std::sync::Arc;
-use std::{io, rt};
+use std::{fs, io, rt};
 
 /// A draft: a file that no name of a volume stands for.
 #[derive(Drop)]
@@ -109,9 +109,17 @@ pub(crate) fn make_draft<R: rt::Files<File = File>>(
     Ok(RealDraft { file, path })
 }
 
-fn seal_draft(alloc: Global, draft: RealDraft) -> io::Result<RealSealed> {
+// The draft is synced. One that can't be is unlinked, or else stays until the next host deletes it.
+fn seal_draft<R: rt::Files<File = File>>(
+    rt: &R,
+    alloc: Global,
+    draft: RealDraft,
+) -> io::Result<RealSealed> {
     let RealDraft { file, path } = draft;
-    file.sync_all()?;
+    if let Err(error) = file.sync_all() {
+        let _left = fs::remove_file(rt, &path);
+        return Err(error);
+    }
     RealSealed::new(alloc, file, Origin::Draft(path))
 }
 
@@ -147,9 +155,9 @@ impl<R: rt::Files<File = File> + AllocGlobal + Clone + Drop> Files for RealFiles
         counted(&mut self.faults, draft.file.write_all(bytes))
     }
 
-    // The draft's file is synced. The draft of a sealing that failed stays until the next host deletes it.
     fn seal(&mut self, alloc: Global, draft: RealDraft) -> Result<RealSealed, DiskError> {
-        counted(&mut self.faults, seal_draft(alloc, draft))
+        let sealed = seal_draft(&self.rt, alloc, draft);
+        counted(&mut self.faults, sealed)
     }
 
     fn len(&mut self, _: Global, file: &RealSealed) -> Result<u64, DiskError> {

@@ -16,8 +16,7 @@ const HOST_PORT: u32 = 0;
 /// How many bytes of a log are copied at a time.
 const PIECE: usize = 65_536;
 
-/// Makes the folder if it is missing, and syncs the one that holds it. Each folder above it that is missing is made and
-/// synced in the same way first.
+/// Makes the folder if it is missing, each folder above it first, and syncs the folders that hold them.
 pub(crate) fn make_folder<R: Files<File = File>>(
     rt: &R,
     alloc: Global,
@@ -26,7 +25,6 @@ pub(crate) fn make_folder<R: Files<File = File>>(
     for end in 1..folder.len() {
         if let Some((above, rest)) = folder.split_at_checked(end)
             && rest.starts_with('/')
-            && !fs::exists(rt, above)?
         {
             make_in(rt, alloc, above)?;
         }
@@ -34,13 +32,39 @@ pub(crate) fn make_folder<R: Files<File = File>>(
     make_in(rt, alloc, folder)
 }
 
-// Makes the folder if it is missing, in a folder that is there, which is synced.
-fn make_in<R: Files<File = File>>(rt: &R, alloc: Global, folder: &str) -> io::Result<()> {
-    if !fs::exists(rt, folder)? {
-        fs::create_dir(rt, folder)?;
-    }
+/// Makes the folder if it is missing, in a folder that is there, which is synced: also where nothing was made, since who made
+/// the folder may have been killed before. One that can't be synced is an error only where something was made in it.
+pub(crate) fn make_in<R: Files<File = File>>(
+    rt: &R,
+    alloc: Global,
+    folder: &str,
+) -> io::Result<()> {
+    let made = create_if_missing(rt, folder)?;
     let above = format!(in alloc; "{folder}/..")?;
-    sync_folder(rt, above.as_str())
+    match sync_folder(rt, above.as_str()) {
+        Err(error) if !made && cannot_be_synced(error.kind()) => Ok(()),
+        synced => synced,
+    }
+}
+
+// Whether the folder was made. Another process may make it at the same time.
+fn create_if_missing<R: Files<File = File>>(rt: &R, folder: &str) -> io::Result<bool> {
+    match fs::create_dir(rt, folder) {
+        Ok(()) => Ok(true),
+        Err(error) if error.kind() == ErrorKind::AlreadyExists => Ok(false),
+        Err(error) => Err(error),
+    }
+}
+
+// Whether a folder that we may not open, or whose file system has no syncs, answers so.
+fn cannot_be_synced(kind: ErrorKind) -> bool {
+    matches!(
+        kind,
+        ErrorKind::PermissionDenied
+            | ErrorKind::ReadOnlyFilesystem
+            | ErrorKind::InvalidInput
+            | ErrorKind::Unsupported
+    )
 }
 
 /// Syncs the names that a folder holds.
@@ -66,37 +90,47 @@ fn open_folder<R: Files<File = File>>(rt: &R, folder: &str) -> io::Result<File> 
     File::open(rt, folder)
 }
 
-// How the regular files of a folder are named. A name that is no text is left out.
-fn files_in<R: Files<File = File> + AllocGlobal + Clone + Drop>(
+// What stands in a folder, and whether it is a regular file.
+#[derive(Drop)]
+struct Entry {
+    name: String,
+    is_file: bool,
+}
+
+// What stands in a folder. A name that is no text is left out.
+fn entries_in<R: Files<File = File> + AllocGlobal + Clone + Drop>(
     rt: &R,
     alloc: Global,
     folder: &str,
-) -> io::Result<Vec<String>> {
-    let mut files = Vec::new(alloc);
+) -> io::Result<Vec<Entry>> {
+    let mut entries = Vec::new(alloc);
     for entry in fs::read_dir(rt, folder)? {
         match entry {
             Ok(entry) => {
-                if entry.metadata()?.is_file() {
-                    files.push(String::from_str(alloc, entry.file_name())?)?;
-                }
+                let is_file = entry.metadata()?.is_file();
+                let name = String::from_str(alloc, entry.file_name())?;
+                entries.push(Entry { name, is_file })?;
             }
             Err(error) if error.kind() == ErrorKind::InvalidFilename => {}
             Err(error) => return Err(error),
         }
     }
-    Ok(files)
+    Ok(entries)
 }
 
-/// The names in a volume's folder, by kind and then by number. What is no regular file, or is not spelled as a name, is left
-/// alone.
+/// The names in a volume's folder, by kind and then by number. What is not spelled as a name is left alone. What is spelled so
+/// and is no regular file is an error: a log that somebody put elsewhere is not one that is not there.
 pub(crate) fn names_in<R: Files<File = File> + AllocGlobal + Clone + Drop>(
     rt: &R,
     alloc: Global,
     folder: &str,
 ) -> io::Result<Vec<Name>> {
     let mut names = Vec::new(alloc);
-    for file in files_in(rt, alloc, folder)? {
-        if let Some(name) = name_of(file.as_str()) {
+    for entry in entries_in(rt, alloc, folder)? {
+        if let Some(name) = name_of(entry.name.as_str()) {
+            if !entry.is_file {
+                return Err(io::Error::from(ErrorKind::InvalidInput));
+            }
             names.push(name)?;
         }
     }
@@ -110,9 +144,9 @@ pub(crate) fn delete_drafts<R: Files<File = File> + AllocGlobal + Clone + Drop>(
     alloc: Global,
     folder: &str,
 ) -> io::Result<()> {
-    for file in files_in(rt, alloc, folder)? {
-        if is_draft(file.as_str()) {
-            fs::remove_file(rt, format!(in alloc; "{folder}/{file}")?)?;
+    for Entry { name, is_file } in entries_in(rt, alloc, folder)? {
+        if is_file && is_draft(name.as_str()) {
+            fs::remove_file(rt, format!(in alloc; "{folder}/{name}")?)?;
         }
     }
     Ok(())

@@ -43,7 +43,7 @@ pub(crate) fn check_stands<R: Files<File = File>>(
     }
 }
 
-/// The regular file at that path; None where there is none.
+/// The regular file at that path; None where nothing is there. What is there and no regular file is an error.
 pub(crate) fn open_if_there<R: Files<File = File>>(rt: &R, path: &str) -> io::Result<Option<File>> {
     if is_there(rt, path)? {
         Ok(Some(File::open(rt, path)?))
@@ -52,10 +52,11 @@ pub(crate) fn open_if_there<R: Files<File = File>>(rt: &R, path: &str) -> io::Re
     }
 }
 
-/// Whether there is a regular file at that path.
+/// Whether there is a file at that path. What is there and no regular file, as a link, is an error.
 pub(crate) fn is_there<R: Files<File = File>>(rt: &R, path: &str) -> io::Result<bool> {
     match fs::symlink_metadata(rt, path) {
-        Ok(metadata) => Ok(metadata.is_file()),
+        Ok(metadata) if metadata.is_file() => Ok(true),
+        Ok(_) => Err(io::Error::from(ErrorKind::InvalidInput)),
         Err(error) if error.kind() == ErrorKind::NotFound => Ok(false),
         Err(error) => Err(error),
     }

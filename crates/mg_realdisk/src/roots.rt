@@ -4,9 +4,9 @@ ghost use Rattle.std.specs.Prelude.{◌≡◌, None, false, IfOk};
 ghost use Rattle.mg_faults.specs.Causes.{kept_count};
 
 use crate::files::RealFiles;
-use crate::folders::{delete_drafts, lock_folder, make_folder, settle_folder};
+use crate::folders::{delete_drafts, lock_folder, make_folder, make_in, settle_folder};
 use crate::names::{draft_folder, settings_path, volume_folder};
-use crate::opened::read_from;
+use crate::opened::{is_there, read_from};
 use crate::volumes::RealVolume;
 use std::alloc::Global;
 use std::fs::File;
@@ -24,6 +24,8 @@ pub(crate) struct Root<R> {
     rt: R,
     folder: String,
     lock: Option<Arc<File>>,
+    // whether the folder and those above it were made and synced
+    made: bool,
     // how many ports were made
     ports: u32,
     // whether the drafts of earlier hosts were deleted, and how many this one made itself
@@ -41,6 +43,7 @@ impl<R: Files<File = File> + AllocGlobal + Clone + Drop> Root<R> {
             rt,
             folder,
             lock: None,
+            made: false,
             ports: 0,
             swept: false,
             drafts: 0,
@@ -66,10 +69,13 @@ impl<R: Files<File = File> + AllocGlobal + Clone + Drop> Root<R> {
         Ok(lock)
     }
 
-    // Makes the folder where it is missing, and locks it.
+    // Makes the folder where it is missing, at the first call, and locks it.
     fn make(&mut self, alloc: Global) -> io::Result<Arc<File>> {
         self.check_name()?;
-        make_folder(&self.rt, alloc, self.folder.as_str())?;
+        if !self.made {
+            make_folder(&self.rt, alloc, self.folder.as_str())?;
+            self.made = true;
+        }
         self.lock(alloc)
     }
 
@@ -84,7 +90,11 @@ impl<R: Files<File = File> + AllocGlobal + Clone + Drop> Root<R> {
         match fs::metadata(&self.rt, &path) {
             Ok(metadata) if metadata.is_file() => Ok(Some(read_front(&self.rt, alloc, &path)?)),
             Ok(_) => Err(io::Error::from(ErrorKind::InvalidInput)),
-            Err(error) if error.kind() == ErrorKind::NotFound => Ok(None),
+            Err(error) if error.kind() == ErrorKind::NotFound => {
+                // a link that leads nowhere is there
+                is_there(&self.rt, path.as_str())?;
+                Ok(None)
+            }
             Err(error) => Err(error),
         }
     }
@@ -92,7 +102,7 @@ impl<R: Files<File = File> + AllocGlobal + Clone + Drop> Root<R> {
     // The folder of drafts, which is made where it is missing. At the first call the drafts that are there are deleted.
     fn draft_folder(&mut self, alloc: Global) -> io::Result<String> {
         let folder = draft_folder(alloc, self.folder.as_str())?;
-        make_folder(&self.rt, alloc, folder.as_str())?;
+        make_in(&self.rt, alloc, folder.as_str())?;
         if !self.swept {
             delete_drafts(&self.rt, alloc, folder.as_str())?;
             self.swept = true;
@@ -109,7 +119,7 @@ impl<R: Files<File = File> + AllocGlobal + Clone + Drop> Root<R> {
         let lock = self.make(alloc)?;
         let drafts = self.draft_folder(alloc)?;
         let folder = volume_folder(alloc, self.folder.as_str(), n)?;
-        make_folder(&self.rt, alloc, folder.as_str())?;
+        make_in(&self.rt, alloc, folder.as_str())?;
         settle_folder(
             &self.rt,
             alloc,

@@ -148,14 +148,14 @@ fn only_drafts_are_deleted(rt: HostRuntime) -> Result<(), Fail> {
     Ok(())
 }
 
-// Of these only the last two are names: a folder, other digits, another letter, and too few digits are none.
+// Of these only the last two are names: other digits, another letter, and too few digits are none.
 #[test]
 fn what_is_no_name_is_left_alone(rt: HostRuntime) -> Result<(), Fail> {
     let alloc = rt.alloc();
     let folder = new_folder(&rt, "names")?;
-    fs::create_dir_all(&rt, format!(in alloc; "{folder}/p00/t0000000000000001")?)?;
+    fs::create_dir_all(&rt, format!(in alloc; "{folder}/p00/t000000000000000A")?)?;
     for name in [
-        "t000000000000000A",
+        "t000000000000000B",
         "x0000000000000001",
         "t001",
         "w00000000000000ff",
@@ -216,7 +216,7 @@ fn drafts_are_no_names(rt: HostRuntime) {
     assert!(rt; !is_draft("d0000000000000001"));
 }
 
-// A file is renamed once; found under its name it gets another one by a link.
+// A file that is found under its name gets another one by a link, also where that is asked again, as after a failure.
 #[test]
 fn a_found_file_gets_a_second_name(rt: HostRuntime) -> Result<(), Fail> {
     let alloc = rt.alloc();
@@ -232,7 +232,7 @@ fn a_found_file_gets_a_second_name(rt: HostRuntime) -> Result<(), Fail> {
         volume.adopt(alloc, second, &file)?;
         assert!(rt; volume.holds(TABLE, &file));
         assert!(rt; volume.holds(second, &file));
-        assert!(rt; has_failed(&volume.adopt(alloc, second, &file)));
+        volume.adopt(alloc, second, &file)?;
     }
     assert_eq!(rt; volume.names(alloc)?.as_slice(), [TABLE, second].as_slice());
     volume.remove(alloc, TABLE)?;
@@ -282,6 +282,56 @@ fn a_volume_that_is_lent_has_its_logs_written_anew(rt: HostRuntime) -> Result<()
     assert!(rt; fs::metadata(&rt, &path)?.ino() != found);
     assert_eq!(rt; fs::read(&rt, &path)?.as_slice(), bytes.as_slice());
     assert!(rt; !fs::exists(&rt, &draft)?);
+    drop(volume);
+    fs::remove_dir_all(&rt, &folder)?;
+    Ok(())
+}
+
+// A folder that is spelled as a name is neither a file nor nothing: it is not listed, replaced or removed.
+#[test]
+fn what_is_no_file_under_a_name_is_a_fault_and_stays(rt: HostRuntime) -> Result<(), Fail> {
+    let alloc = rt.alloc();
+    let folder = new_folder(&rt, "no_file")?;
+    let path = format!(in alloc; "{folder}/p03/t000000000000002a")?;
+    let mut host = RealHost::new(rt, String::from_str(alloc, &folder)?);
+    let mut volume = host.volume(alloc, 3)?;
+    let mut port = host.files(alloc)?;
+    let file = write_file(alloc, &mut port, b"a table")?;
+    fs::create_dir(&rt, &path)?;
+    assert!(rt; has_failed(&volume.names(alloc)));
+    assert!(rt; has_failed(&volume.find_file(alloc, TABLE)));
+    assert!(rt; has_failed(&volume.adopt(alloc, TABLE, &file)));
+    assert!(rt; has_failed(&volume.remove(alloc, TABLE)));
+    assert!(rt; fs::metadata(&rt, &path)?.is_dir());
+    fs::remove_dir(&rt, &path)?;
+    volume.adopt(alloc, TABLE, &file)?;
+    assert_eq!(rt; volume.names(alloc)?.as_slice(), [TABLE].as_slice());
+    drop(volume);
+    fs::remove_dir_all(&rt, &folder)?;
+    Ok(())
+}
+
+// What is adopted has no draft any more, and a name that another file has is not taken from it.
+#[test]
+fn a_name_is_not_taken_from_a_file(rt: HostRuntime) -> Result<(), Fail> {
+    let alloc = rt.alloc();
+    let folder = new_folder(&rt, "taken")?;
+    let mut host = RealHost::new(rt, String::from_str(alloc, &folder)?);
+    let mut volume = host.volume(alloc, 3)?;
+    let mut port = host.files(alloc)?;
+    let first = write_file(alloc, &mut port, b"a table")?;
+    let second = write_file(alloc, &mut port, b"another")?;
+    volume.adopt(alloc, TABLE, &first)?;
+    assert!(rt;
+        !fs::exists(
+            &rt,
+            format!(in alloc; "{folder}/tmp/d000000010000000000000001")?
+        )?
+    );
+    assert!(rt; has_failed(&volume.adopt(alloc, TABLE, &second)));
+    assert!(rt; !volume.holds(TABLE, &second));
+    let kept = fs::read(&rt, format!(in alloc; "{folder}/p03/t000000000000002a")?)?;
+    assert_eq!(rt; kept.as_slice(), b"a table".as_slice());
     drop(volume);
     fs::remove_dir_all(&rt, &folder)?;
     Ok(())

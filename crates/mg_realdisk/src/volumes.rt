@@ -82,9 +82,9 @@ fn find_in<R: Files<File = File>>(
     }
 }
 
-// Renames the file's draft, or links a file that has a name already, and then syncs the folder. It replaces no file: one that
-// is there under the name is an error. So is a file that has left the path that it was known by, as where its draft has a name
-// already: another file may stand there now.
+// Links the file from where it was, and then syncs the folder. A link replaces nothing: what is there under the name is an
+// error, but for this very file, as an adoption leaves it that failed at its sync. So is a file that has left the path that it
+// was known by, as where its draft has a name already: another file may stand there now.
 fn adopt_in<R: Files<File = File>>(
     rt: &R,
     alloc: Global,
@@ -93,33 +93,39 @@ fn adopt_in<R: Files<File = File>>(
     file: &RealSealed,
 ) -> io::Result<()> {
     let path = path_of(alloc, folder, name)?;
-    if is_there(rt, path.as_str())? {
-        return Err(io::Error::from(ErrorKind::AlreadyExists));
-    }
-    match &file.opened.origin {
-        Origin::Draft(draft) => {
-            check_stands(rt, draft.as_str(), file.number)?;
-            fs::rename(rt, draft, &path)?;
+    let from = match &file.opened.origin {
+        Origin::Draft(draft) => draft.as_str(),
+        Origin::Named(other) => other.as_str(),
+    };
+    check_stands(rt, from, file.number)?;
+    match fs::hard_link(rt, from, path.as_str()) {
+        Ok(()) => {}
+        Err(error) if error.kind() == ErrorKind::AlreadyExists => {
+            check_stands(rt, path.as_str(), file.number)?;
         }
-        Origin::Named(other) => {
-            check_stands(rt, other.as_str(), file.number)?;
-            fs::hard_link(rt, other, &path)?;
-        }
+        Err(error) => return Err(error),
     }
     sync_folder(rt, folder)
 }
 
+// Unlinks the draft of a file that has a name now. One that stays is deleted by the next host.
+fn drop_draft<R: Files<File = File>>(rt: &R, file: &RealSealed) {
+    if let Origin::Draft(draft) = &file.opened.origin {
+        let _left = fs::remove_file(rt, draft);
+    }
+}
+
 // Removes the file and syncs the folder, also where there was no such file: an earlier removal may have failed at its sync.
+// What is there and no regular file is an error, and stays.
 fn remove_from<R: Files<File = File>>(
     rt: &R,
     alloc: Global,
     folder: &str,
     name: Name,
 ) -> io::Result<()> {
-    match fs::remove_file(rt, path_of(alloc, folder, name)?) {
-        Ok(()) => {}
-        Err(error) if error.kind() == ErrorKind::NotFound => {}
-        Err(error) => return Err(error),
+    let path = path_of(alloc, folder, name)?;
+    if is_there(rt, path.as_str())? {
+        fs::remove_file(rt, &path)?;
     }
     sync_folder(rt, folder)
 }
@@ -224,6 +230,7 @@ impl<R: Files<File = File> + AllocGlobal + Clone + Drop> Volume for RealVolume<R
         self.known.remove(&name);
         let adopted = adopt_in(&self.rt, alloc, self.folder.as_str(), name, file);
         counted(&mut self.faults, adopted)?;
+        drop_draft(&self.rt, file);
         self.known.insert(name, file.number)?;
         Ok(())
     }
